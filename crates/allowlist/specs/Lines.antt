@@ -169,11 +169,15 @@ import_at s = mark_at 123 s >>= λ r. at_end r Imports
 unfoldable pub member_at : List ℕ → List ℕ → Option Form
 member_at word s = brackets_at (length s) 0 s >>= λ d. named_at (record { word = word; depth = d.0 }) d.1
 
--- what follows the first word
+abbrev pub form_or : Option Form → Option Form → Option Form
+form_or (Some form) other = Some form
+form_or None other = other
+
+-- What follows the first word. `static_import` is the word of a type where no bracket follows.
 unfoldable pub after_word : List ℕ → List ℕ → Option Form
 after_word word s =
     if bytes_eq word (codes "class") then opening_at s
-    else (if bytes_eq word (codes "static_import") then import_at s
+    else (if bytes_eq word (codes "static_import") then form_or (import_at s) (member_at word s)
     else (if is_class_name word then member_at word s else None))
 
 unfoldable pub constructor_at : List ℕ → Option Form

@@ -3,7 +3,7 @@
 ghost use Rattle.std.specs.Prelude.{◌≡◌, ◌==◌, ◌≤◌, IfOk, None, if◌then◌else◌, false, true, length, option_map};
 ghost use Rattle.std.specs.List.{position_or_len};
 ghost use Rattle.std.specs.Str.{bytes_eq, is_utf8};
-ghost use Rattle.allowlist.specs.Lines.{types_at, params_at, called, augmented_at, after_name, named_at, opening_at, import_at, member_at, after_word, constructor_at, content_form, form_of, at_end, augmentation, is_name, is_class_name};
+ghost use Rattle.allowlist.specs.Lines.{types_at, params_at, called, augmented_at, after_name, named_at, opening_at, import_at, member_at, form_or, after_word, constructor_at, content_form, form_of, at_end, augmentation, is_name, is_class_name};
 ghost use Rattle.allowlist.specs.Seen.{seen_text, seen_list, seen_form};
 
 use crate::scan::{
@@ -217,6 +217,20 @@ fn member_at<'a>(
     }
 }
 
+/// What follows `static_import`, which is the word of a type where no bracket follows.
+fn after_import<'a>(
+    alloc: Global,
+    word: &'a [u8],
+    text: &'a [u8],
+) -> Result<Option<Form<'a>>, AllocError>
+    ensures { IfOk result (λ form. option_map seen_form form ≡ form_or (import_at text.now) (member_at word.now text.now)) }
+{
+    match import_at(text) {
+        Some(form) => Ok(Some(form)),
+        None => member_at(alloc, word, text),
+    }
+}
+
 /// What follows the first word of a line.
 #[tactic(auto, unfolding(crate::specs::Lines::after_word))]
 fn after_word<'a>(
@@ -230,7 +244,7 @@ fn after_word<'a>(
         return Ok(opening_at(text));
     }
     if word == b"static_import".as_slice() {
-        return Ok(import_at(text));
+        return after_import(alloc, word, text);
     }
     if is_class_name(word) {
         member_at(alloc, word, text)

@@ -40,7 +40,7 @@ pub fn empty_map(heap: &Heap) -> Outcome
 {
     Outcome::New(Object::Map {
         class: HASH_MAP,
-        pairs: Pairs::new(heap.alloc()),
+        pairs: Pairs::new(heap.alloc(), heap.seed()),
         guard: Guard::Frozen,
         changes: 0,
     })

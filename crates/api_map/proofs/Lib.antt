@@ -1,3 +1,4 @@
+pub mod FieldRoom
 pub mod Bulking
 pub mod Choosing
 pub mod Copying

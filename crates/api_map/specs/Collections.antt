@@ -4,9 +4,7 @@ use Rattle.std.specs.Prelude.{ℕ, true, false, Option, Some, None, List, slice_
 use Rattle.object_values.specs.declared.object.Object.{Object}
 use Rattle.object_values.specs.declared.object.Part.TheVariants as part
 use Rattle.object_values.specs.declared.value.Value.{Value}
-use Rattle.object_values.specs.Pairs.{value_of}
 use Rattle.object_heap.specs.Parts.{guard_of, pairs_of}
-use Rattle.value_walks.specs.Equality.{value_now}
 use Rattle.api_map.specs.declared.arguments.Keyed.{Keyed}
 use Rattle.api_map.specs.declared.arguments.Keyed.TheVariants.{Set, View}
 use Rattle.container_outcomes.specs.declared.outcome.Outcome.{Outcome}
@@ -15,9 +13,9 @@ use Rattle.api_map.specs.Arguments.{entry_of, holder_of, keyed_at, with_key}
 use Rattle.container_outcomes.specs.Choices.{with_one, with_two}
 use Rattle.container_outcomes.specs.Guards.{is_open}
 use Rattle.api_map.specs.Maps.{cleared, emptiness_given, key_found, size_given, value_found}
-use Rattle.container_outcomes.specs.Outcomes.{flag, unsupported}
-use Rattle.api_map.specs.Searching.{compared_with, first_from}
-use Rattle.container_outcomes.specs.Comparing.{where_equal, where_found}
+use Rattle.container_outcomes.specs.Outcomes.{flag, has_key, unsupported}
+use Rattle.api_map.specs.Searching.{first_from}
+use Rattle.container_outcomes.specs.Comparing.{entry_comparison, where_equal, where_found}
 use Rattle.container_outcomes.specs.declared.comparing.Compared.{Compared}
 use Rattle.container_outcomes.specs.declared.comparing.Compared.TheVariants.{Other}
 
@@ -26,10 +24,11 @@ abbrev pub added : List Object → Keyed → Value → Outcome
 added objects (Set id) key = if is_open (guard_of objects id) then with_key key (Adds id key) else unsupported
 added objects (View map part) key = unsupported
 
--- An entry is one of a view's where the map has its key, and the values of both are equal, by a walk of its own
+-- An entry is one of a view's where the map has its key, and it is equal to the entry that the view shows of that key, by a walk of
+-- its own
 abbrev pub shown_by : List Object → ℕ → Option (ℕ × Value) → Compared
 shown_by objects map None = Other
-shown_by objects map (Some entry) = compared_with objects (value_now objects entry.0 entry.1) (value_of (pairs_of objects map) entry.1)
+shown_by objects map (Some entry) = if has_key objects map entry.1 then entry_comparison objects entry.0 entry.1 map entry.1 else Other
 
 abbrev pub entry_shown : List Object → ℕ → Value → Compared
 entry_shown objects map value = shown_by objects map (entry_of objects value)

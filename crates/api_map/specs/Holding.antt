@@ -6,18 +6,15 @@ use Rattle.object_values.specs.declared.object.Part.{Part}
 use Rattle.object_values.specs.declared.object.Part.TheVariants as part
 use Rattle.object_values.specs.declared.value.Value.{Value}
 use Rattle.object_values.specs.Pairs.{value_of}
-use Rattle.object_values.specs.Values.{same_value}
 use Rattle.object_heap.specs.Parts.{items_of, pairs_of}
-use Rattle.value_walks.specs.Equality.{value_now}
 use Rattle.container_values.specs.Elements.{values_in}
 use Rattle.container_outcomes.specs.declared.comparing.Compared.{Compared}
 use Rattle.container_outcomes.specs.declared.comparing.Compared.TheVariants.{Same, Other}
 use Rattle.api_map.specs.declared.sources.Source.{Source}
 use Rattle.api_map.specs.declared.sources.Source.TheVariants.{Items, Pairs}
 use Rattle.api_map.specs.Arguments.{entry_of}
-use Rattle.api_map.specs.Collections.{entry_shown}
-use Rattle.container_outcomes.specs.Comparing.{comparison}
-use Rattle.api_map.specs.Searching.{compared_with}
+use Rattle.api_map.specs.Collections.{entry_shown, shown_by}
+use Rattle.container_outcomes.specs.Comparing.{comparison, entry_comparison}
 
 -- the first of the values that is the same, or why the search stopped
 abbrev pub or_else : Compared → Compared → Compared
@@ -41,10 +38,10 @@ abbrev pub value_in : List Object → Source → Value → Compared
 value_in objects (Items id) value = among (comparison objects value) (items_of objects id)
 value_in objects (Pairs map part) value = value_shown objects map part value
 
--- Entries are the same where their keys are, and then their values now, by a walk of its own
+-- an entry that a view shows is compared with an entry as two entries that are objects are, by a walk of its own
 abbrev pub same_entry : List Object → ℕ → Value → Option (ℕ × Value) → Compared
 same_entry objects from key None = Other
-same_entry objects from key (Some other) = if same_value key other.1 then comparison objects (value_now objects from key) (value_now objects other.0 other.1) else Other
+same_entry objects from key (Some other) = entry_comparison objects from key other.0 other.1
 
 abbrev pub is_entry : List Object → ℕ → Value → Value → Compared
 is_entry objects from key value = same_entry objects from key (entry_of objects value)
@@ -52,7 +49,7 @@ is_entry objects from key value = same_entry objects from key (entry_of objects 
 abbrev pub entry_shown_too : List Object → ℕ → Part → ℕ → Value → Compared
 entry_shown_too objects map part.Keys from key = Other
 entry_shown_too objects map part.Values from key = among (is_entry objects from key) (values_in (pairs_of objects map))
-entry_shown_too objects map part.Entries from key = compared_with objects (value_now objects from key) (value_of (pairs_of objects map) key)
+entry_shown_too objects map part.Entries from key = shown_by objects map (Some (from, key))
 
 abbrev pub entry_in : List Object → Source → ℕ → Value → Compared
 entry_in objects (Items id) from key = among (is_entry objects from key) (items_of objects id)

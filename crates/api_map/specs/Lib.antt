@@ -1,3 +1,4 @@
+pub mod Affording
 pub mod Arguments
 pub mod Bulk
 pub mod Collections

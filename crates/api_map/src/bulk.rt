@@ -235,7 +235,7 @@ fn sift_one(
 fn sift(heap: &Heap, search: Search, pairs: &Pairs) -> Result<Pairs, SiftErr>
     ensures { spec.Sifts (spec.sift (spec.choose heap.now.objects search) pairs.now) result }
 {
-    let mut left = Pairs::new(heap.alloc());
+    let mut left = Pairs::new(heap.alloc(), heap.seed());
     for at in 0..pairs.len() {
         let Some((key, value)) = pair_at(pairs, at) else {
             unreachable!()

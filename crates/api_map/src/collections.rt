@@ -1,19 +1,15 @@
 //! The members of Collection, of sets and of views of maps.
-ghost use Rattle.std.specs.Prelude.{◌≡◌};
-ghost use Rattle.object_heap.specs.Parts.{pairs_of};
-ghost use Rattle.object_values.specs.Pairs.{value_of};
-ghost use Rattle.value_walks.specs.Equality.{value_now};
+ghost use Rattle.std.specs.Prelude.{◌≡◌, Some};
 ghost use Rattle.container_outcomes.specs.declared.outcome.Outcome.{Outcome};
 ghost use Rattle.api_map.specs.declared.arguments.Keyed.TheVariants as keyed;
 ghost use Rattle.api_map.specs.Collections as spec;
 ghost use Rattle.container_outcomes.specs.Outcomes.{Tells};
-ghost use Rattle.api_map.specs.Searching.{compared_with};
 
 use crate::arguments::{Keyed, entry_of, holder_of, keyed_at};
-use crate::maps::{cleared, emptiness_given, key_found, size_given, value_found};
-use crate::searching::compare_with;
+use crate::maps::{cleared, emptiness_given, has_key, key_found, size_given, value_found};
 use container_outcomes::{
-    Compared, Outcome, is_open, not_simple, null_error, too_deep, too_large, unsupported,
+    Compared, Outcome, compare_entries, is_open, not_simple, null_error, too_deep, too_large,
+    unsupported,
 };
 use member_arguments::value_at;
 use object_heap::Heap;
@@ -50,13 +46,14 @@ fn added(heap: &Heap, keyed: Keyed, key: &Value) -> Outcome
     }
 }
 
-/// Compares the value that one map has under a key, or null, with the one that another has under it, if it has one.
-pub fn compare_now(heap: &Heap, from: u32, map: u32, key: &Value) -> Compared
-    ensures { result ≡ compared_with heap.now.objects (value_now heap.now.objects from key.now) (value_of (pairs_of heap.now.objects map) key.now) }
+/// Compares the entry that one map has under a key with the one that a view of another's entries shows of the key, if it shows one.
+pub fn compare_shown(heap: &Heap, from: u32, map: u32, key: &Value) -> Compared
+    ensures { result ≡ spec.shown_by heap.now.objects map (Some (from, key.now)) }
 {
-    match heap.map_get(from, key) {
-        Some(value) => compare_with(heap, value, map, key),
-        None => compare_with(heap, &Value::Null, map, key),
+    if has_key(heap, map, key) {
+        compare_entries(heap, from, key, map, key)
+    } else {
+        Compared::Other
     }
 }
 
@@ -65,7 +62,7 @@ pub fn entry_shown(heap: &Heap, map: u32, value: &Value) -> Compared
     ensures { result ≡ spec.entry_shown heap.now.objects map value.now }
 {
     match entry_of(heap, value) {
-        Some((from, key)) => compare_now(heap, from, map, key),
+        Some((from, key)) => compare_shown(heap, from, map, key),
         None => Compared::Other,
     }
 }

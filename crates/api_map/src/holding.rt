@@ -1,16 +1,15 @@
 //! Whether a collection holds an element.
-ghost use Rattle.std.specs.Prelude.{◌≡◌, Some};
+ghost use Rattle.std.specs.Prelude.{◌≡◌};
 ghost use Rattle.object_heap.specs.Parts.{pairs_of};
-ghost use Rattle.value_walks.specs.Equality.{value_now};
 ghost use Rattle.container_outcomes.specs.Comparing.{comparison};
 ghost use Rattle.api_map.specs.Sources.{elements};
 ghost use Rattle.api_map.specs.Holding as spec;
 
 use crate::arguments::entry_of;
-use crate::collections::{compare_now, entry_shown};
+use crate::collections::{compare_shown, entry_shown};
 use crate::maps::has_key;
 use crate::sources::{Source, count, element_at};
-use container_outcomes::{Compared, compare};
+use container_outcomes::{Compared, compare, compare_entries};
 use object_heap::Heap;
 use object_values::{Part, Value};
 
@@ -62,34 +61,12 @@ pub fn value_in(heap: &Heap, source: Source, value: &Value) -> Compared
     }
 }
 
-// The values that two maps have under keys, or null.
-fn compare_both(heap: &Heap, from: u32, key: &Value, map: u32, other: &Value) -> Compared
-    ensures { result ≡ comparison heap.now.objects (value_now heap.now.objects from key.now) (value_now heap.now.objects map other.now) }
-{
-    match (heap.map_get(from, key), heap.map_get(map, other)) {
-        (Some(left), Some(right)) => compare(heap, left, right),
-        (Some(left), None) => compare(heap, left, &Value::Null),
-        (None, Some(right)) => compare(heap, &Value::Null, right),
-        (None, None) => compare(heap, &Value::Null, &Value::Null),
-    }
-}
-
 fn is_entry(heap: &Heap, from: u32, key: &Value, value: &Value) -> Compared
     ensures { result ≡ spec.is_entry heap.now.objects from key.now value.now }
 {
     match entry_of(heap, value) {
-        Some((map, other)) => same_entry(heap, from, key, map, other),
+        Some((map, other)) => compare_entries(heap, from, key, map, other),
         None => Compared::Other,
-    }
-}
-
-fn same_entry(heap: &Heap, from: u32, key: &Value, map: u32, other: &Value) -> Compared
-    ensures { result ≡ spec.same_entry heap.now.objects from key.now (Some (map, other.now)) }
-{
-    if *key == *other {
-        compare_both(heap, from, key, map, other)
-    } else {
-        Compared::Other
     }
 }
 
@@ -117,7 +94,7 @@ fn entry_shown_too(heap: &Heap, map: u32, part: Part, from: u32, key: &Value) ->
     match part {
         Part::Keys => Compared::Other,
         Part::Values => entry_among(heap, Source::Pairs(map, Part::Values), from, key),
-        Part::Entries => compare_now(heap, from, map, key),
+        Part::Entries => compare_shown(heap, from, map, key),
     }
 }
 

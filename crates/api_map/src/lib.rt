@@ -1,6 +1,7 @@
 //! The members of Map and Map.Entry, the constructors of maps and sets, and the members of Collection of sets and of views of maps.
 #![tactic(auto)]
 
+mod affording;
 mod arguments;
 mod bulk;
 mod collections;

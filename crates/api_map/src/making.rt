@@ -51,7 +51,7 @@ pub fn new_map(heap: &Heap, class: MapClass) -> Outcome
 {
     Outcome::New(Object::Map {
         class: class.number(),
-        pairs: Pairs::new(heap.alloc()),
+        pairs: Pairs::new(heap.alloc(), heap.seed()),
         guard: Guard::Open,
         changes: 0,
     })
@@ -63,7 +63,7 @@ pub fn new_set(heap: &Heap, class: SetClass) -> Outcome
 {
     Outcome::New(Object::Set {
         class: class.number(),
-        items: Pairs::new(heap.alloc()),
+        items: Pairs::new(heap.alloc(), heap.seed()),
         guard: Guard::Open,
         changes: 0,
     })

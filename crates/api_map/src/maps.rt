@@ -3,11 +3,13 @@ ghost use Rattle.std.specs.Prelude.{◌≡◌, None, Some, slice_get};
 ghost use Rattle.object_heap.specs.Parts.{pairs_of};
 ghost use Rattle.object_values.specs.Pairs.{value_of};
 ghost use Rattle.container_outcomes.specs.declared.outcome.Outcome.{Outcome};
+ghost use Rattle.api_map.specs.Affording.{Affords};
 ghost use Rattle.api_map.specs.Maps as spec;
 ghost use Rattle.container_outcomes.specs.Outcomes.{Tells, has_key};
 ghost use Rattle.api_map.specs.Searching.{first_from};
 ghost use Rattle.value_walks.specs.Equality.{value_now};
 
+use crate::affording::Afforded;
 use crate::arguments::map_at;
 use crate::errors::no_field;
 use crate::guards::{is_mapped, may_put};
@@ -18,7 +20,7 @@ use container_outcomes::{
 use member_arguments::value_at;
 use object_heap::Heap;
 use object_values::{Guard, Object, Pairs, Part, Value};
-use value_walks::{TextErr, VISITS, text};
+use value_walks::{TextErr, VISITS, text_within};
 
 /// A count as an int, at most the greatest one.
 pub fn count_as_int(count: usize) -> i32
@@ -50,7 +52,7 @@ fn empty_map(heap: &Heap, id: u32, class: u32, changes: u64) -> Outcome
 {
     let object = Object::Map {
         class,
-        pairs: Pairs::new(heap.alloc()),
+        pairs: Pairs::new(heap.alloc(), heap.seed()),
         guard: Guard::Open,
         changes: changes.wrapping_add(1),
     };
@@ -62,7 +64,7 @@ fn empty_set(heap: &Heap, id: u32, class: u32, changes: u64) -> Outcome
 {
     let object = Object::Set {
         class,
-        items: Pairs::new(heap.alloc()),
+        items: Pairs::new(heap.alloc(), heap.seed()),
         guard: Guard::Open,
         changes: changes.wrapping_add(1),
     };
@@ -172,23 +174,25 @@ pub fn value_found(heap: &Heap, id: u32, value: &Value) -> Outcome
     }
 }
 
-#[tactic(auto, using(crate::proofs::Needing::field_needs))]
-fn field_missing(heap: &Heap, key: &Value) -> Outcome
-    ensures { Tells (spec.field_of heap.now.objects key.now None) result }
+// The key's text is made if there is room for it.
+#[tactic(auto, using(crate::proofs::FieldRoom::no_room_for_field, crate::proofs::Needing::field_needs))]
+fn field_missing(heap: &Heap, key: &Value) -> Afforded
+    ensures { Affords heap.now (spec.field_of heap.now.objects key.now None) result }
 {
-    match text(heap, key, VISITS) {
-        Ok(text) => no_field(heap, text.units()),
-        Err(TextErr::Deep) => too_deep(heap),
-        Err(TextErr::Large) => too_large(heap),
-        Err(TextErr::NoMemory) => Outcome::NoMemory,
+    match text_within(heap, key, VISITS, heap.room_left()) {
+        Ok(Some(text)) => Afforded::Told(no_field(heap, text.units())),
+        Ok(None) => Afforded::NoRoom,
+        Err(TextErr::Deep) => Afforded::Told(too_deep(heap)),
+        Err(TextErr::Large) => Afforded::Told(too_large(heap)),
+        Err(TextErr::NoMemory) => Afforded::Told(Outcome::NoMemory),
     }
 }
 
-fn field_of(heap: &Heap, map: u32, key: &Value) -> Outcome
-    ensures { Tells (spec.field_of heap.now.objects key.now (value_of (pairs_of heap.now.objects map) key.now)) result }
+fn field_of(heap: &Heap, map: u32, key: &Value) -> Afforded
+    ensures { Affords heap.now (spec.field_of heap.now.objects key.now (value_of (pairs_of heap.now.objects map) key.now)) result }
 {
     match heap.map_get(map, key) {
-        Some(value) => given(value),
+        Some(value) => Afforded::Told(given(value)),
         None => field_missing(heap, key),
     }
 }
@@ -203,16 +207,16 @@ pub fn value_or_null(heap: &Heap, map: u32, key: &Value) -> Outcome
     }
 }
 
-fn value_given(heap: &Heap, map: u32, key: &Value) -> Outcome
-    ensures { Tells (spec.value_given heap.now.objects map key.now) result }
+fn value_given(heap: &Heap, map: u32, key: &Value) -> Afforded
+    ensures { Affords heap.now (spec.value_given heap.now.objects map key.now) result }
 {
     if is_mapped(heap, map) {
         return field_of(heap, map, key);
     }
     if key.is_simple() {
-        value_or_null(heap, map, key)
+        Afforded::Told(value_or_null(heap, map, key))
     } else {
-        not_simple(heap)
+        Afforded::Told(not_simple(heap))
     }
 }
 
@@ -353,12 +357,12 @@ pub fn view(part: Part, heap: &Heap, args: &[Value]) -> Outcome
 }
 
 /// `get(def)`.
-pub fn get(heap: &Heap, args: &[Value]) -> Outcome
-    ensures { Tells (spec.get heap.now.objects args.now) result }
+pub fn get(heap: &Heap, args: &[Value]) -> Afforded
+    ensures { Affords heap.now (spec.get heap.now.objects args.now) result }
 {
     match (map_at(heap, args, 0), value_at(args, 1)) {
         (Some(map), Some(key)) => value_given(heap, map, key),
-        _ => null_error(),
+        _ => Afforded::Told(null_error()),
     }
 }
 

@@ -2,15 +2,16 @@
 ghost use Rattle.std.specs.Prelude.{◌≡◌, length};
 ghost use Rattle.object_heap.specs.Effects.{Answers};
 ghost use Rattle.object_heap.specs.Fits.{Rules, Fits, AllFit, AnswerFits};
-ghost use Rattle.container_outcomes.specs.Outcomes.{Tells, WantsMemory, effect};
+ghost use Rattle.container_outcomes.specs.Outcomes.{WantsMemory, effect};
+ghost use Rattle.api_map.specs.Affording.{Affords};
 ghost use Rattle.api_map.specs.Members as spec;
 ghost use Rattle.api_map.specs.Members.{does, does_numbered, numbered};
 
+use crate::affording::Afforded;
 use crate::bulk::Bulk;
 use crate::making::{MapClass, SetClass};
 use crate::removing::{remove, remove_element, remove_pair};
 use crate::{bulk, collections, entries, making, maps, whole};
-use container_outcomes::Outcome;
 use object_heap::{Answer, Heap};
 use object_values::{Part, Value};
 
@@ -55,37 +56,37 @@ pub enum Member {
     RemovePair,
 }
 
-fn tells(heap: &Heap, member: Telling, args: &[Value]) -> Outcome
-    ensures { Tells (spec.tells heap.now.objects member args.now) result }
+fn tells(heap: &Heap, member: Telling, args: &[Value]) -> Afforded
+    ensures { Affords heap.now (spec.tells heap.now.objects member args.now) result }
 {
     match member {
-        Telling::Add => collections::add(heap, args),
-        Telling::ClearCollection => collections::clear(heap, args),
-        Telling::Contains => collections::contains(heap, args),
-        Telling::IsEmptyCollection => collections::is_empty(heap, args),
-        Telling::SizeOfCollection => collections::size(heap, args),
-        Telling::NewSet(class) => making::new_set(heap, class),
-        Telling::Clear => maps::clear(heap, args),
-        Telling::ContainsKey => maps::contains_key(heap, args),
-        Telling::ContainsValue => maps::contains_value(heap, args),
-        Telling::View(part) => maps::view(part, heap, args),
+        Telling::Add => Afforded::Told(collections::add(heap, args)),
+        Telling::ClearCollection => Afforded::Told(collections::clear(heap, args)),
+        Telling::Contains => Afforded::Told(collections::contains(heap, args)),
+        Telling::IsEmptyCollection => Afforded::Told(collections::is_empty(heap, args)),
+        Telling::SizeOfCollection => Afforded::Told(collections::size(heap, args)),
+        Telling::NewSet(class) => Afforded::Told(making::new_set(heap, class)),
+        Telling::Clear => Afforded::Told(maps::clear(heap, args)),
+        Telling::ContainsKey => Afforded::Told(maps::contains_key(heap, args)),
+        Telling::ContainsValue => Afforded::Told(maps::contains_value(heap, args)),
+        Telling::View(part) => Afforded::Told(maps::view(part, heap, args)),
         Telling::Get => maps::get(heap, args),
-        Telling::GetOrDefault => maps::get_or_default(heap, args),
-        Telling::IsEmpty => maps::is_empty(heap, args),
-        Telling::Put => maps::put(heap, args),
-        Telling::PutIfAbsent => maps::put_if_absent(heap, args),
-        Telling::Replace => maps::replace(heap, args),
-        Telling::Size => maps::size(heap, args),
-        Telling::NewMap(class) => making::new_map(heap, class),
-        Telling::AddAll => whole::add_all(heap, args),
-        Telling::ContainsAll => bulk::contains_all(heap, args),
-        Telling::Sift(bulk) => bulk::sift_all(bulk, heap, args),
-        Telling::PutAll => whole::put_all(heap, args),
-        Telling::NewSetOf(class) => whole::new_set_of(class, heap, args),
-        Telling::NewMapOf(class) => whole::new_map_of(class, heap, args),
-        Telling::GetKey => entries::get_key(heap, args),
-        Telling::GetValue => entries::get_value(heap, args),
-        Telling::SetValue => entries::set_value(heap, args),
+        Telling::GetOrDefault => Afforded::Told(maps::get_or_default(heap, args)),
+        Telling::IsEmpty => Afforded::Told(maps::is_empty(heap, args)),
+        Telling::Put => Afforded::Told(maps::put(heap, args)),
+        Telling::PutIfAbsent => Afforded::Told(maps::put_if_absent(heap, args)),
+        Telling::Replace => Afforded::Told(maps::replace(heap, args)),
+        Telling::Size => Afforded::Told(maps::size(heap, args)),
+        Telling::NewMap(class) => Afforded::Told(making::new_map(heap, class)),
+        Telling::AddAll => Afforded::Told(whole::add_all(heap, args)),
+        Telling::ContainsAll => Afforded::Told(bulk::contains_all(heap, args)),
+        Telling::Sift(bulk) => Afforded::Told(bulk::sift_all(bulk, heap, args)),
+        Telling::PutAll => Afforded::Told(whole::put_all(heap, args)),
+        Telling::NewSetOf(class) => Afforded::Told(whole::new_set_of(class, heap, args)),
+        Telling::NewMapOf(class) => Afforded::Told(whole::new_map_of(class, heap, args)),
+        Telling::GetKey => Afforded::Told(entries::get_key(heap, args)),
+        Telling::GetValue => Afforded::Told(entries::get_value(heap, args)),
+        Telling::SetValue => Afforded::Told(entries::set_value(heap, args)),
     }
 }
 

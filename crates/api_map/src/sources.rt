@@ -13,7 +13,7 @@ use container_values::{value_at, value_count};
 use member_arguments::object_at;
 use object_heap::Heap;
 use object_values::{Object, Pairs, Part, Value};
-use std::alloc::{AllocError, Global};
+use std::alloc::AllocError;
 
 /// What holds the elements.
 #[derive(Clone, Copy)]
@@ -179,11 +179,11 @@ pub fn put_pairs(from: &Pairs, into: &mut Pairs) -> Result<(), AllocError>
 
 /// The same pairs once more.
 #[tactic(auto, using(crate::proofs::Copying::all_copied))]
-pub fn copied(alloc: Global, pairs: &Pairs) -> Result<Pairs, AllocError>
+pub fn copied(heap: &Heap, pairs: &Pairs) -> Result<Pairs, AllocError>
     ensures { IfOk result (λ copy. copy ≡ pairs.now) }
 {
     let _count = pairs.len();
-    let mut copy = Pairs::new(alloc);
+    let mut copy = Pairs::new(heap.alloc(), heap.seed());
     put_pairs(pairs, &mut copy)?;
     Ok(copy)
 }

@@ -19,7 +19,7 @@ use std::alloc::AllocError;
 fn keys_of(heap: &Heap, source: Source) -> Result<Pairs, AllocError>
     ensures { IfOk result (λ keys. keys ≡ with_keys [] (elements heap.now.objects source)) }
 {
-    let mut keys = Pairs::new(heap.alloc());
+    let mut keys = Pairs::new(heap.alloc(), heap.seed());
     put_keys(heap, source, &mut keys)?;
     Ok(keys)
 }
@@ -61,8 +61,8 @@ fn pairs_copied(heap: &Heap, from: u32) -> Result<Pairs, AllocError>
     ensures { IfOk result (λ copy. copy ≡ pairs_of heap.now.objects from) }
 {
     match heap.pairs(from) {
-        Some(pairs) => copied(heap.alloc(), pairs),
-        None => Ok(Pairs::new(heap.alloc())),
+        Some(pairs) => copied(heap, pairs),
+        None => Ok(Pairs::new(heap.alloc(), heap.seed())),
     }
 }
 

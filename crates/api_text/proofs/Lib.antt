@@ -8,3 +8,4 @@ pub mod PieceLaws
 pub mod Places
 pub mod Replacing
 pub mod Room
+pub mod Splicing

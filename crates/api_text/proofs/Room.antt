@@ -1,8 +1,8 @@
 -- Where there is no room for what is made.
-use Rattle.std.proofs.Common.{◌≡◌, ℕ, suc, ◌+◌, ◌-◌, ◌<◌, ◌≤◌, min, Some, None, List, [], ◌∷◌, ◌++◌, length, take, slice_get, inl, inr, refl, ap, sym, subst, ◌∙◌, arith, length-append}
+use Rattle.std.proofs.Common.{◌≡◌, ℕ, suc, ◌+◌, ◌-◌, ◌<◌, ◌≤◌, min, true, Option, Some, None, List, [], ◌∷◌, ◌++◌, length, take, slice_get, inl, inr, refl, ap, sym, subst, ◌∙◌, arith, length-append}
 use Rattle.std.proofs.lemmas.Bool.{cases_lt}
 use Rattle.std.proofs.lemmas.Bool.Decides.{nat_tests}
-use Rattle.std.specs.Prelude.{map, replicate}
+use Rattle.std.specs.Prelude.{Ok, map, replicate}
 use Rattle.std.proofs.lemmas.List.{length-map, length-replicate, length-take}
 use Rattle.pl_types.specs.declared.classes.TheConstants.{STRING}
 use Rattle.pl_types.specs.declared.primitive.Primitive.TheVariants as prim
@@ -13,19 +13,64 @@ use Rattle.object_values.specs.declared.value.Value.TheVariants as v
 use Rattle.object_values.specs.declared.object.Object.{Object}
 use Rattle.object_values.specs.declared.object.Object.TheVariants as o
 use Rattle.object_heap.specs.Effects.{Gives, NoRoom}
-use Rattle.object_heap.specs.Objects.{weight_of, renewed_by, renewal_growth}
+use Rattle.object_heap.specs.Objects.{weight_of, renewed_by, renewal_growth, units_growth, with_units}
 use Rattle.object_heap.specs.Parts.{asked, object_units, units_of}
 use Rattle.object_heap.specs.Store.{Store, paid, charge, weight, with_change}
-use Rattle.object_heap.proofs.Growth.{add_grows, renewal_grows}
+use Rattle.object_heap.proofs.Growth.{add_grows, append_grows, renewal_grows}
 use Rattle.object_heap.proofs.Paying.{charged, not_charged, paid_if, paid_not}
-use Rattle.api_text.specs.declared.outcome.Outcome.TheVariants.{Makes}
-use Rattle.api_text.specs.Builders.{set_there, units_resized}
+use Rattle.api_text.specs.declared.outcome.Outcome.TheVariants.{Extends, Makes}
+use Rattle.api_text.specs.Builders.{is_builder, set_there, units_resized}
 use Rattle.api_text.specs.Making.{array_of, chars_of, cost_of}
-use Rattle.api_text.specs.Outcomes.{effect, gives_new}
+use Rattle.value_walks.specs.declared.outputs.Output.{Output}
+use Rattle.value_walks.specs.declared.outputs.Output.TheVariants.{Kept, Over}
+use Rattle.value_walks.specs.Outputs.{kept_in}
+use Rattle.value_walks.specs.Texts.{Text, Wrote, TooDeep, TooLarge, GivesWithin, IsLonger}
+use Rattle.api_text.specs.declared.outcome.Outcome.{Outcome}
+use Rattle.api_text.specs.Outcomes.{Tells, effect, followed_by, gives_new, too_deep, too_large}
+use Rattle.api_text.specs.Writing.{told_of}
 
 -- a text costs its units and 1
 pub no_room_for_text : (store : Store) (text : List ℕ) → store.room ≤ length text → effect store (Makes text) ≡ NoRoom
 no_room_for_text store text h = rw (not_charged store (length text + 1) (omega arith)) refl
+
+pub no_room_for_both : (store : Store) (text other : List ℕ) → store.room ≤ length text + length other → effect store (Makes (text ++ other)) ≡ NoRoom
+no_room_for_both store text other h = no_room_for_text store (text ++ other) (omega (arith, length-append text other))
+
+-- the text of a walk
+pub made_whole : (room : ℕ) (walk : Text) (text : List ℕ) → GivesWithin room walk (Ok (Some text)) → followed_by walk Makes ≡ Makes text
+made_whole room walk text h = ap (λ (w : Text). followed_by w Makes) h.1
+
+pub no_room_for_walk : (store : Store) (walk : Text) → IsLonger (store.room - 1) walk → effect store (followed_by walk Makes) ≡ NoRoom
+no_room_for_walk store (Wrote text visits) h = no_room_for_text store text (omega arith)
+no_room_for_walk store TooDeep h = absurd h
+no_room_for_walk store TooLarge h = absurd h
+
+pub deep_told : (store : Store) (walk : Text) (result : Outcome) → walk ≡ TooDeep → Tells store too_deep result → Tells store (followed_by walk Makes) result
+deep_told store walk result h told = subst (λ (w : Text). Tells store (followed_by w Makes) result) (sym h) told
+
+pub large_told : (store : Store) (walk : Text) (result : Outcome) → walk ≡ TooLarge → Tells store too_large result → Tells store (followed_by walk Makes) result
+large_told store walk result h told = subst (λ (w : Text). Tells store (followed_by w Makes) result) (sym h) told
+
+-- a builder that a text is written to grows by its units
+grown : (text : List ℕ) (found : Option Object) → is_builder found ≡ true → asked (units_growth (length text)) 0 found ≡ length text
+grown text (Some (o.Builder units)) h = refl
+grown text found h = absurd (cc)
+
+pub no_room_to_grow : (store : Store) (builder : ℕ) (walk : Text) → is_builder (slice_get store.objects builder) ≡ true → IsLonger store.room walk
+    → effect store (followed_by walk (Extends builder)) ≡ NoRoom
+no_room_to_grow store builder (Wrote text visits) h l =
+    rw (paid_not store (with_change store.objects builder (with_units text)) (length text) (append_grows store.objects builder text ∙ grown text (slice_get store.objects builder) h) l) refl
+no_room_to_grow store builder TooDeep h l = absurd l
+no_room_to_grow store builder TooLarge h l = absurd l
+
+-- what was written to an output
+pub told_whole : (out : Output) (text : List ℕ) → Some text ≡ kept_in out → told_of out ≡ Makes text
+told_whole (Kept units room) text h = cc
+told_whole Over text h = absurd (cc)
+
+pub told_over : (store : Store) (out : Output) → None ≡ kept_in out → effect store (told_of out) ≡ NoRoom
+told_over store (Kept units room) h = absurd (cc)
+told_over store Over h = refl
 
 -- a new object costs its weight and what is made for it
 pub no_room_for_new : (store : Store) (object : Object) (made : ℕ) → store.room < weight_of object + made → gives_new store object made ≡ NoRoom

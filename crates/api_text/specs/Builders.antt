@@ -1,6 +1,7 @@
 -- The members of StringBuilder. Those that change a builder give it, but for setLength.
-use Rattle.std.specs.Prelude.{ℕ, ◌+◌, ◌-◌, Option, Some, None, List, [], ◌++◌, length, take, drop, ℤ, pos, negsuc, replicate, slice_get}
+use Rattle.std.specs.Prelude.{ℕ, ◌+◌, ◌-◌, Bool, true, false, Option, Some, None, List, [], ◌++◌, length, take, drop, ℤ, pos, negsuc, replicate, slice_get}
 use Rattle.object_values.specs.declared.object.Object.{Object}
+use Rattle.object_values.specs.declared.object.Object.TheVariants as o
 use Rattle.object_values.specs.declared.value.Value.{Value}
 use Rattle.object_values.specs.declared.value.Value.TheVariants as v
 use Rattle.object_heap.specs.Parts.{units_of}
@@ -14,9 +15,18 @@ use Rattle.api_text.specs.Outcomes.{followed_by}
 use Rattle.api_text.specs.Sequences.{index_error, place_before, place_within}
 use Rattle.api_text.specs.Texts.{place_of}
 
+-- whether there is a builder
+abbrev pub is_builder : Option Object → Bool
+is_builder (Some (o.Builder units)) = true
+is_builder found = false
+
 -- the text of a value at the end
 abbrev pub appended : List Object → ℕ → Value → Outcome
 appended objects builder value = followed_by (text_of objects value VISITS) (Extends builder)
+
+-- units in the place of those from one place up to another
+abbrev pub with_run : ℕ → List ℕ → ℕ → ℕ → List ℕ → Value → Outcome
+with_run builder units from to more value = Becomes builder (take from units ++ more ++ drop to units) value
 
 -- a text at a place from 0 to the end
 abbrev pub put_there : ℕ → List ℕ → List ℕ → ℕ → Outcome

@@ -1,5 +1,5 @@
 -- What each member comes to, and their numbers.
-use Rattle.std.specs.Prelude.{ℕ, ◌-◌, nat_lt, Option, Some, None, List, [], ◌∷◌, slice_get, if◌then◌else◌}
+use Rattle.std.specs.Prelude.{ℕ, ◌-◌, nat_lt, Bool, true, false, Option, Some, None, List, [], ◌∷◌, slice_get, if◌then◌else◌}
 use Rattle.object_values.specs.declared.object.Object.{Object}
 use Rattle.object_values.specs.declared.value.Value.{Value}
 use Rattle.api_text.specs.declared.member.Member.{Member}
@@ -49,6 +49,14 @@ does objects m.SetLength arguments = builders.set_length objects arguments
 does objects (m.NewException class) arguments = exceptions.new_exception class
 does objects (m.NewExceptionSaying class) arguments = exceptions.new_exception_saying class arguments
 does objects m.GetMessage arguments = exceptions.get_message objects arguments
+
+-- those that change a builder
+abbrev pub changes_builder : Member → Bool
+changes_builder m.Append = true
+changes_builder m.DeleteCharAt = true
+changes_builder m.Insert = true
+changes_builder m.SetLength = true
+changes_builder member = false
 
 -- The members in the order of their numbers in the catalogue: those of CharSequence from 3, those of String and StringBuilder from
 -- 58, and those of exceptions from 194

@@ -4,6 +4,10 @@ use Rattle.object_values.specs.declared.value.Value.TheVariants as v
 use Rattle.api_text.specs.declared.writing.Stop.{Stop}
 use Rattle.api_text.specs.declared.writing.Stop.TheVariants.{NoRoom, NoMemory}
 use Rattle.api_text.specs.declared.writing.Texts.{Texts}
+use Rattle.value_walks.specs.declared.outputs.Output.{Output}
+use Rattle.value_walks.specs.declared.outputs.Output.TheVariants.{Kept, Over}
+use Rattle.api_text.specs.declared.outcome.Outcome.{Outcome}
+use Rattle.api_text.specs.declared.outcome.Outcome.TheVariants as outcome
 use Rattle.api_text.specs.Making.{cost_of}
 
 -- why so many units are not written: there is no room for a text of so many, which costs 1 more, or there was no memory
@@ -29,3 +33,8 @@ MadeTexts room texts (Err stop) = StopsTexts room texts stop
 abbrev pub StopsOne : ℕ → List ℕ → Stop → Type 0
 StopsOne spare text NoRoom = spare < length text + 2
 StopsOne spare text NoMemory = Unit {0}
+
+-- what comes of what was written to an output
+abbrev pub told_of : Output → Outcome
+told_of (Kept units room) = outcome.Makes units
+told_of Over = outcome.NoRoom

@@ -1,9 +1,10 @@
 //! The members of StringBuilder.
-ghost use Rattle.std.specs.Prelude.{◌≡◌, ◌++◌, ◌+◌, ◌≤◌, ◌<◌, [], true, IfOk, drop, take, length};
+ghost use Rattle.std.specs.Prelude.{◌≡◌, ◌≤◌, [], true, IfOk, length, replicate, slice_get};
 ghost use Rattle.object_heap.specs.Effects.{Answers, NoRoom};
 ghost use Rattle.object_heap.specs.Parts.{units_of};
 ghost use Rattle.api_text.specs.declared.outcome.Outcome.{Outcome};
 ghost use Rattle.api_text.specs.Builders as spec;
+ghost use Rattle.api_text.specs.Builders.{is_builder, with_run};
 ghost use Rattle.api_text.specs.Outcomes.{Tells, WantsMemory, effect};
 
 use crate::errors::{index_error, null_error, too_deep, too_large};
@@ -12,10 +13,10 @@ use crate::paying::extend;
 use crate::sequences::{place_before, place_within};
 use crate::texts::place_of;
 use member_arguments::{int_at, object_at, sequence_at, text_at, value_at};
-use object_heap::{Answer, Heap};
+use object_heap::{Answer, Heap, HeapErr};
 use object_values::{Elements, Object, Value};
 use std::alloc::{AllocError, Global};
-use value_walks::{TextErr, VISITS, text};
+use value_walks::{TextErr, VISITS, text, text_within};
 
 /// `new StringBuilder()`.
 pub fn new_builder(heap: &Heap) -> Outcome
@@ -43,16 +44,40 @@ pub fn new_builder_of(heap: &Heap, args: &[Value]) -> Outcome
     }
 }
 
-// The text of a value at the end of a builder.
+// The text of a value at the end of an object that is no builder, and stays as it is.
 #[tactic(auto, using(crate::proofs::Needing::appended_needs))]
-fn appended(heap: &Heap, builder: u32, value: &Value) -> Outcome
-    ensures { Tells heap.now (spec.appended heap.now.objects builder value.now) result }
+fn appended_to_other(heap: &Heap, other: u32, value: &Value) -> Outcome
+    ensures { Tells heap.now (spec.appended heap.now.objects other value.now) result }
 {
     match text(heap, value, VISITS) {
-        Ok(text) => Outcome::Extends(builder, text),
+        Ok(text) => Outcome::Extends(other, text),
         Err(TextErr::Deep) => too_deep(heap),
         Err(TextErr::Large) => too_large(heap),
         Err(TextErr::NoMemory) => Outcome::NoMemory,
+    }
+}
+
+// The text of a value at the end of a builder. It is made if there is room for it.
+#[tactic(auto, using(crate::proofs::Room::no_room_to_grow, crate::proofs::Needing::appended_needs))]
+fn appended_to_builder(heap: &Heap, builder: u32, value: &Value) -> Outcome
+    requires { is_builder (slice_get heap.now.objects builder) ≡ true }
+    ensures { Tells heap.now (spec.appended heap.now.objects builder value.now) result }
+{
+    match text_within(heap, value, VISITS, heap.room_left()) {
+        Ok(Some(text)) => Outcome::Extends(builder, text),
+        Ok(None) => Outcome::NoRoom,
+        Err(TextErr::Deep) => too_deep(heap),
+        Err(TextErr::Large) => too_large(heap),
+        Err(TextErr::NoMemory) => Outcome::NoMemory,
+    }
+}
+
+fn appended(heap: &Heap, builder: u32, value: &Value) -> Outcome
+    ensures { Tells heap.now (spec.appended heap.now.objects builder value.now) result }
+{
+    match heap.get(builder) {
+        Some(Object::Builder { .. }) => appended_to_builder(heap, builder, value),
+        _ => appended_to_other(heap, builder, value),
     }
 }
 
@@ -66,59 +91,59 @@ pub fn append_value(heap: &Heap, args: &[Value]) -> Outcome
     }
 }
 
-// What a text at a place makes of a builder's units.
-fn with_text(
-    alloc: Global,
+// Units in the place of those of a builder from one place up to another. It costs what the builder grows by.
+#[tactic(auto, using(crate::proofs::Splicing::spliced_is))]
+fn spliced(
+    heap: &mut Heap,
+    builder: u32,
+    from: usize,
+    to: usize,
     units: &[u16],
-    place: usize,
-    text: &[u16],
-) -> Result<Vec<u16>, AllocError>
-    requires { place ≤ length units.now }
-    ensures { IfOk result (λ made. made.items ≡ take place units.now ++ text.now ++ drop place units.now) }
+    value: Value,
+) -> Answer
+    requires ordered { from ≤ to }
+    requires within { to ≤ length (units_of heap.old.objects builder) }
+    ensures { Answers (effect heap.old (with_run builder (units_of heap.old.objects builder) from to units.now value)) heap.old heap.new result }
 {
-    let mut made = Vec::with_capacity(alloc, units.len().saturating_add(text.len()))?;
-    made.extend_from_slice(&units[..place])?;
-    made.extend_from_slice(text)?;
-    made.extend_from_slice(&units[place..])?;
-    Ok(made)
-}
-
-fn put_in(heap: &Heap, builder: u32, place: usize, text: &[u16]) -> Outcome
-    requires { place ≤ length (units_of heap.now.objects builder) }
-    ensures { Tells heap.now (spec.put_there builder (units_of heap.now.objects builder) text.now place) result }
-{
-    match with_text(heap.alloc(), heap.units(builder), place, text) {
-        Ok(units) => Outcome::Becomes(builder, Elements::from_vec(units), Value::Ref(builder)),
-        Err(_) => Outcome::NoMemory,
+    match heap.splice_units(builder, from, to, units) {
+        Ok(()) => Answer::Value(value),
+        Err(HeapErr::Room) => {
+            drop(value);
+            Answer::Room
+        }
+        Err(HeapErr::NoMemory) => {
+            drop(value);
+            Answer::NoMemory
+        }
     }
 }
 
 // A text at a place of a builder.
-fn put_at(heap: &Heap, builder: u32, at: i32, text: &[u16]) -> Outcome
-    ensures { Tells heap.now (spec.put_at builder (units_of heap.now.objects builder) at text.now) result }
+fn put_at(heap: &mut Heap, builder: u32, at: i32, text: &[u16]) -> Answer
+    ensures { Answers (effect heap.old (spec.put_at builder (units_of heap.old.objects builder) at text.now)) heap.old heap.new result }
 {
-    match place_within(0, heap.units(builder).len(), at) {
-        Some(place) => put_in(heap, builder, place, text),
-        None => index_error(heap, at, heap.units(builder).len()),
+    let count = heap.units(builder).len();
+    match place_within(0, count, at) {
+        Some(place) => spliced(heap, builder, place, place, text, Value::Ref(builder)),
+        None => index_error(heap, at, count).settle(heap),
     }
 }
 
 // The text of a value at a place of a builder.
-#[tactic(auto, using(crate::proofs::Needing::inserted_needs))]
-fn inserted_text(heap: &Heap, builder: u32, at: i32, value: &Value) -> Outcome
-    ensures { Tells heap.now (spec.inserted heap.now.objects builder at value.now) result }
+fn inserted_text(heap: &mut Heap, builder: u32, at: i32, value: &Value) -> Answer
+    ensures { Answers (effect heap.old (spec.inserted heap.old.objects builder at value.now)) heap.old heap.new result }
 {
     match text(heap, value, VISITS) {
         Ok(text) => put_at(heap, builder, at, text.units()),
-        Err(TextErr::Deep) => too_deep(heap),
-        Err(TextErr::Large) => too_large(heap),
-        Err(TextErr::NoMemory) => Outcome::NoMemory,
+        Err(TextErr::Deep) => too_deep(heap).settle(heap),
+        Err(TextErr::Large) => too_large(heap).settle(heap),
+        Err(TextErr::NoMemory) => Answer::NoMemory,
     }
 }
 
 // The same; a text is no walk.
-fn inserted(heap: &Heap, builder: u32, at: i32, value: &Value) -> Outcome
-    ensures { Tells heap.now (spec.inserted heap.now.objects builder at value.now) result }
+fn inserted(heap: &mut Heap, builder: u32, at: i32, value: &Value) -> Answer
+    ensures { Answers (effect heap.old (spec.inserted heap.old.objects builder at value.now)) heap.old heap.new result }
 {
     match value {
         Value::Str(text) => put_at(heap, builder, at, text.units()),
@@ -127,52 +152,34 @@ fn inserted(heap: &Heap, builder: u32, at: i32, value: &Value) -> Outcome
 }
 
 /// `insert(int, def)`.
-pub fn insert(heap: &Heap, args: &[Value]) -> Outcome
-    ensures { Tells heap.now (spec.insert heap.now.objects args.now) result }
+pub fn insert(heap: &mut Heap, args: &[Value]) -> Answer
+    ensures does { Answers (effect heap.old (spec.insert heap.old.objects args.now)) heap.old heap.new result }
+    ensures memory { WantsMemory (spec.insert heap.old.objects args.now) result }
 {
     match (object_at(args, 0), int_at(args, 1), value_at(args, 2)) {
         (Some(builder), Some(at), Some(value)) => inserted(heap, builder, at, value),
-        _ => null_error(),
+        _ => null_error().settle(heap),
     }
 }
 
-// A builder's units without the one at a place.
-fn without(alloc: Global, units: &[u16], place: usize) -> Result<Vec<u16>, AllocError>
-    requires { place < length units.now }
-    ensures { IfOk result (λ made. made.items ≡ take place units.now ++ drop (place + 1) units.now) }
+fn deleted(heap: &mut Heap, builder: u32, at: i32) -> Answer
+    ensures { Answers (effect heap.old (spec.deleted heap.old.objects builder at)) heap.old heap.new result }
 {
-    let mut made = Vec::with_capacity(alloc, units.len())?;
-    made.extend_from_slice(&units[..place])?;
-    made.extend_from_slice(&units[place + 1..])?;
-    Ok(made)
-}
-
-fn deleted_in(heap: &Heap, builder: u32, place: usize) -> Outcome
-    requires { place < length (units_of heap.now.objects builder) }
-    ensures { Tells heap.now (spec.deleted_there builder (units_of heap.now.objects builder) place) result }
-{
-    match without(heap.alloc(), heap.units(builder), place) {
-        Ok(units) => Outcome::Becomes(builder, Elements::from_vec(units), Value::Ref(builder)),
-        Err(_) => Outcome::NoMemory,
-    }
-}
-
-fn deleted(heap: &Heap, builder: u32, at: i32) -> Outcome
-    ensures { Tells heap.now (spec.deleted heap.now.objects builder at) result }
-{
-    match place_before(heap.units(builder).len(), at) {
-        Some(place) => deleted_in(heap, builder, place),
-        None => index_error(heap, at, heap.units(builder).len()),
+    let count = heap.units(builder).len();
+    match place_before(count, at) {
+        Some(place) => spliced(heap, builder, place, place + 1, &[], Value::Ref(builder)),
+        None => index_error(heap, at, count).settle(heap),
     }
 }
 
 /// `deleteCharAt(int)`.
-pub fn delete_char_at(heap: &Heap, args: &[Value]) -> Outcome
-    ensures { Tells heap.now (spec.delete_char_at heap.now.objects args.now) result }
+pub fn delete_char_at(heap: &mut Heap, args: &[Value]) -> Answer
+    ensures does { Answers (effect heap.old (spec.delete_char_at heap.old.objects args.now)) heap.old heap.new result }
+    ensures memory { WantsMemory (spec.delete_char_at heap.old.objects args.now) result }
 {
     match (object_at(args, 0), int_at(args, 1)) {
         (Some(builder), Some(at)) => deleted(heap, builder, at),
-        _ => null_error(),
+        _ => null_error().settle(heap),
     }
 }
 
@@ -199,51 +206,59 @@ fn exceeds(heap: &Heap, builder: u32, count: usize) -> bool
     }
 }
 
-// Units cut, or filled with unit 0, to a length.
-fn units_resized(alloc: Global, units: &[u16], count: usize) -> Result<Vec<u16>, AllocError>
-    ensures { IfOk result (λ made. made.items ≡ spec.units_resized count units.now) }
+// So many units 0.
+fn zeros(alloc: Global, count: usize) -> Result<Vec<u16>, AllocError>
+    ensures { IfOk result (λ made. made.items ≡ replicate count 0) }
 {
-    let mut made = Vec::with_capacity(
-        alloc,
-        if count < units.len() {
-            units.len()
-        } else {
-            count
-        },
-    )?;
-    made.extend_from_slice(units)?;
+    let mut made = Vec::with_capacity(alloc, count)?;
     made.resize(count, 0)?;
     Ok(made)
 }
 
-fn set_there(heap: &Heap, builder: u32, count: usize) -> Outcome
-    ensures { Tells heap.now (spec.set_there builder (units_of heap.now.objects builder) count) result }
+// Units 0 at the end of a builder up to a length.
+fn lengthened(heap: &mut Heap, builder: u32, count: usize) -> Answer
+    requires { length (units_of heap.old.objects builder) ≤ count }
+    ensures { Answers (effect heap.old (spec.set_there builder (units_of heap.old.objects builder) count)) heap.old heap.new result }
 {
     if exceeds(heap, builder, count) {
-        return Outcome::NoRoom;
+        return Answer::Room;
     }
-    match units_resized(heap.alloc(), heap.units(builder), count) {
-        Ok(units) => Outcome::Becomes(builder, Elements::from_vec(units), Value::Null),
-        Err(_) => Outcome::NoMemory,
+    let before = heap.units(builder).len();
+    match zeros(heap.alloc(), count - before) {
+        Ok(units) => spliced(heap, builder, before, before, units.as_slice(), Value::Null),
+        Err(_) => Answer::NoMemory,
     }
 }
 
-fn resized(heap: &Heap, builder: u32, count: i32) -> Outcome
-    ensures { Tells heap.now (spec.resized heap.now.objects builder count) result }
+fn set_there(heap: &mut Heap, builder: u32, count: usize) -> Answer
+    ensures { Answers (effect heap.old (spec.set_there builder (units_of heap.old.objects builder) count)) heap.old heap.new result }
+{
+    let before = heap.units(builder).len();
+    if count <= before {
+        spliced(heap, builder, count, before, &[], Value::Null)
+    } else {
+        lengthened(heap, builder, count)
+    }
+}
+
+fn resized(heap: &mut Heap, builder: u32, count: i32) -> Answer
+    ensures { Answers (effect heap.old (spec.resized heap.old.objects builder count)) heap.old heap.new result }
 {
     if count < 0 {
-        return index_error(heap, count, heap.units(builder).len());
+        let before = heap.units(builder).len();
+        return index_error(heap, count, before).settle(heap);
     }
     set_there(heap, builder, count as usize)
 }
 
 /// `setLength(int)`.
-pub fn set_length(heap: &Heap, args: &[Value]) -> Outcome
-    ensures { Tells heap.now (spec.set_length heap.now.objects args.now) result }
+pub fn set_length(heap: &mut Heap, args: &[Value]) -> Answer
+    ensures does { Answers (effect heap.old (spec.set_length heap.old.objects args.now)) heap.old heap.new result }
+    ensures memory { WantsMemory (spec.set_length heap.old.objects args.now) result }
 {
     match (object_at(args, 0), int_at(args, 1)) {
         (Some(builder), Some(count)) => resized(heap, builder, count),
-        _ => null_error(),
+        _ => null_error().settle(heap),
     }
 }
 

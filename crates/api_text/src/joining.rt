@@ -1,7 +1,8 @@
 //! String.join.
-ghost use Rattle.std.specs.Prelude.{◌≡◌, ◌++◌, ◌≤◌, [], IfErr, IfNone, IfSome, OnOk, Some, length, map, slice_get};
+ghost use Rattle.std.specs.Prelude.{◌≡◌, ◌≤◌, [], IfErr, IfNone, IfSome, OnOk, Some, length, map, slice_get};
 ghost use Rattle.std.specs.Option.{option_copied};
 ghost use Rattle.object_heap.specs.Parts.{pairs_in};
+ghost use Rattle.value_walks.specs.Outputs.{put};
 ghost use Rattle.value_walks.specs.Texts.{AValue, Writes};
 ghost use Rattle.api_text.specs.declared.outcome.Outcome.{Outcome};
 ghost use Rattle.api_text.specs.Outcomes.{Tells};
@@ -9,11 +10,12 @@ ghost use Rattle.api_text.specs.Joining as spec;
 
 use crate::errors::{null_error, too_deep, too_large};
 use crate::outcome::Outcome;
-use member_arguments::{object_at, sequence_at, value_at};
+use crate::writing::output_made;
+use member_arguments::{object_at, sequence_at, text_room, value_at};
 use object_heap::Heap;
 use object_values::{Object, Pairs, Part, Value};
 use pl_units::UText;
-use value_walks::{TextErr, VISITS, push_entry, push_text};
+use value_walks::{Output, TextErr, VISITS, push_entry, push_text};
 
 // What a walk that stopped comes to.
 fn stopped(heap: &Heap, cause: TextErr) -> Outcome
@@ -27,17 +29,15 @@ fn stopped(heap: &Heap, cause: TextErr) -> Outcome
 }
 
 // Writes the text between before each element but the first.
-fn separate(out: &mut Vec<u16>, between: &[u16], at: usize) -> Result<(), TextErr>
-    ensures ok { OnOk result (out.new.items ≡ out.old.items ++ spec.separator between.now at) }
+#[tactic(auto, using(value_walks::proofs::Putting::put_nothing))]
+fn separate(out: &mut Output, between: &[u16], at: usize) -> Result<(), TextErr>
+    ensures ok { OnOk result (out.new ≡ put out.old (spec.separator between.now at)) }
     ensures err { IfErr result (λ cause. cause ≡ TextErr.NoMemory) }
 {
     if at == 0 {
         return Ok(());
     }
-    match out.extend_from_slice(between) {
-        Ok(()) => Ok(()),
-        Err(_) => Err(TextErr::NoMemory),
-    }
+    out.write(between)
 }
 
 // Writes the text of a value.
@@ -46,9 +46,9 @@ fn push_value(
     between: &[u16],
     at: usize,
     value: &Value,
-    out: &mut Vec<u16>,
+    out: &mut Output,
 ) -> Result<u64, TextErr>
-    ensures { Writes (spec.element_text heap.now.objects (AValue value.now)) (out.old.items ++ spec.separator between.now at) out.new.items result }
+    ensures { Writes (spec.element_text heap.now.objects (AValue value.now)) (put out.old (spec.separator between.now at)) out.new result }
 {
     match separate(out, between, at) {
         Ok(()) => push_text(heap, value, VISITS, out),
@@ -62,9 +62,9 @@ fn push_element(
     part: Part,
     key: &Value,
     value: &Value,
-    out: &mut Vec<u16>,
+    out: &mut Output,
 ) -> Result<u64, TextErr>
-    ensures { Writes (spec.element_text heap.now.objects (spec.element_of part (key.now, value.now))) out.old.items out.new.items result }
+    ensures { Writes (spec.element_text heap.now.objects (spec.element_of part (key.now, value.now))) out.old out.new result }
 {
     match part {
         Part::Keys => push_text(heap, key, VISITS, out),
@@ -80,9 +80,9 @@ fn push_shown(
     part: Part,
     key: &Value,
     value: &Value,
-    out: &mut Vec<u16>,
+    out: &mut Output,
 ) -> Result<u64, TextErr>
-    ensures { Writes (spec.element_text heap.now.objects (spec.element_of part (key.now, value.now))) (out.old.items ++ spec.separator between.now at) out.new.items result }
+    ensures { Writes (spec.element_text heap.now.objects (spec.element_of part (key.now, value.now))) (put out.old (spec.separator between.now at)) out.new result }
 {
     match separate(out, between, at) {
         Ok(()) => push_element(heap, part, key, value, out),
@@ -94,7 +94,7 @@ fn push_shown(
 fn join_values(heap: &Heap, between: &[u16], values: &[Value]) -> Outcome
     ensures { Tells heap.now (spec.joined_elements heap.now.objects between.now (map AValue values.now)) result }
 {
-    let mut out = Vec::new(heap.alloc());
+    let mut out = Output::new(heap.alloc(), text_room(heap));
     for at in 0..values.len() {
         let Some(value) = value_at(values, at) else {
             unreachable!()
@@ -104,7 +104,7 @@ fn join_values(heap: &Heap, between: &[u16], values: &[Value]) -> Outcome
             Err(cause) => return stopped(heap, cause),
         }
     }
-    Outcome::made_of(out)
+    output_made(out)
 }
 
 // The key and the value at a place.
@@ -122,7 +122,7 @@ fn pair_at(pairs: &Pairs, at: usize) -> Option<(&Value, &Value)>
 fn join_pairs(heap: &Heap, between: &[u16], part: Part, pairs: &Pairs) -> Outcome
     ensures { Tells heap.now (spec.joined_elements heap.now.objects between.now (map (spec.element_of part) pairs.now)) result }
 {
-    let mut out = Vec::new(heap.alloc());
+    let mut out = Output::new(heap.alloc(), text_room(heap));
     for at in 0..pairs.len() {
         let Some((key, value)) = pair_at(pairs, at) else {
             unreachable!()
@@ -132,7 +132,7 @@ fn join_pairs(heap: &Heap, between: &[u16], part: Part, pairs: &Pairs) -> Outcom
             Err(cause) => return stopped(heap, cause),
         }
     }
-    Outcome::made_of(out)
+    output_made(out)
 }
 
 fn join_none(heap: &Heap) -> Outcome

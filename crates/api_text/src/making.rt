@@ -10,18 +10,18 @@ ghost use Rattle.api_text.specs.Making as spec;
 ghost use Rattle.api_text.specs.Pieces.{pieces};
 ghost use Rattle.api_text.specs.Texts as texts;
 
-use crate::errors::{index_error, null_error, too_deep, too_large};
+use crate::errors::{index_error, null_error};
 use crate::outcome::Outcome;
 use crate::pieces::{pieces, replaced};
 use crate::sequences::place_within;
 use crate::texts::{to_lower, to_upper};
-use crate::writing::{array_made, made};
-use member_arguments::{int_at, sequence_at, text_at, value_at};
+use crate::writing::{array_made, made, text_made};
+use member_arguments::{int_at, sequence_at, text_at, text_room, value_at};
 use object_heap::Heap;
 use object_values::{Elements, Value};
 use pl_units::UText;
 use std::alloc::{AllocError, Global};
-use value_walks::{TextErr, VISITS, text};
+use value_walks::{VISITS, text_within};
 
 // The text of these units.
 fn text_of(heap: &Heap, units: &[u16]) -> Outcome
@@ -140,16 +140,11 @@ fn chars_of(heap: &Heap, text: &[u16]) -> Outcome
     }
 }
 
-#[tactic(auto, using(crate::proofs::Needing::text_needs))]
+// The text is made if there is room for it.
 fn to_text(heap: &Heap, value: &Value) -> Outcome
     ensures { Tells heap.now (spec.to_text heap.now.objects value.now) result }
 {
-    match text(heap, value, VISITS) {
-        Ok(text) => Outcome::Makes(text),
-        Err(TextErr::Deep) => too_deep(heap),
-        Err(TextErr::Large) => too_large(heap),
-        Err(TextErr::NoMemory) => Outcome::NoMemory,
-    }
+    text_made(heap, text_within(heap, value, VISITS, text_room(heap)))
 }
 
 /// `String.valueOf(def)`.
@@ -162,9 +157,13 @@ pub fn value_of(heap: &Heap, args: &[Value]) -> Outcome
     }
 }
 
+#[tactic(auto, using(crate::proofs::Room::no_room_for_both))]
 fn both(heap: &Heap, text: &[u16], other: &[u16]) -> Outcome
     ensures { Tells heap.now (spec.both text.now other.now) result }
 {
+    if text.len().saturating_add(other.len()) as u64 >= heap.room_left() {
+        return Outcome::NoRoom;
+    }
     of_units(joined_units(heap.alloc(), text, other))
 }
 

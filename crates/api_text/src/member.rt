@@ -1,10 +1,10 @@
 //! The members of CharSequence, String and StringBuilder, the constructors of exceptions, and getMessage.
-ghost use Rattle.std.specs.Prelude.{◌≡◌, length, slice_get};
+ghost use Rattle.std.specs.Prelude.{◌≡◌, false, length, slice_get};
 ghost use Rattle.object_heap.specs.Effects.{Answers};
 ghost use Rattle.object_heap.specs.Fits.{Rules, Fits, AllFit, AnswerFits};
 ghost use Rattle.api_text.specs.Outcomes.{Tells, WantsMemory, effect};
 ghost use Rattle.api_text.specs.Members as spec;
-ghost use Rattle.api_text.specs.Members.{does, does_numbered, numbered};
+ghost use Rattle.api_text.specs.Members.{changes_builder, does, does_numbered, numbered};
 
 use crate::outcome::{ExceptionClass, Outcome};
 use crate::{builders, exceptions, joining, making, sequences, texts};
@@ -49,7 +49,9 @@ pub enum Member {
     GetMessage,
 }
 
+// What a member comes to that changes no builder.
 fn does(heap: &Heap, member: Member, args: &[Value]) -> Outcome
+    requires { changes_builder member ≡ false }
     ensures { Tells heap.now (does heap.now.objects member args.now) result }
 {
     match member {
@@ -78,14 +80,12 @@ fn does(heap: &Heap, member: Member, args: &[Value]) -> Outcome
         Member::Trim => making::trim(heap, args),
         Member::NewBuilder => builders::new_builder(heap),
         Member::NewBuilderOf => builders::new_builder_of(heap, args),
-        Member::Append => builders::append_value(heap, args),
-        Member::DeleteCharAt => builders::delete_char_at(heap, args),
         Member::BuilderIndexOf => builders::builder_index_of(heap, args),
-        Member::Insert => builders::insert(heap, args),
-        Member::SetLength => builders::set_length(heap, args),
         Member::NewException(class) => exceptions::new_exception(class),
         Member::NewExceptionSaying(class) => exceptions::new_exception_saying(heap, class, args),
         Member::GetMessage => exceptions::get_message(heap, args),
+        Member::Append | Member::DeleteCharAt | Member::Insert | Member::SetLength =>
+            unreachable!(),
     }
 }
 
@@ -204,12 +204,16 @@ fn member_of(number: u32) -> Option<Member>
     }
 }
 
+// The call of a member. Those that change a builder change it in place.
 fn called(member: Member, heap: &mut Heap, args: &[Value]) -> Answer
     ensures does { Answers (effect heap.old (does heap.old.objects member args.now)) heap.old heap.new result }
     ensures memory { WantsMemory (does heap.old.objects member args.now) result }
 {
     match member {
         Member::Append => builders::append(heap, args),
+        Member::DeleteCharAt => builders::delete_char_at(heap, args),
+        Member::Insert => builders::insert(heap, args),
+        Member::SetLength => builders::set_length(heap, args),
         _ => does(heap, member, args).settle(heap),
     }
 }

@@ -1,16 +1,20 @@
 //! Units that are written as long as there is room for them.
-ghost use Rattle.std.specs.Prelude.{◌≡◌, ◌++◌, ◌+◌, ◌<◌, ◌^◌, [], ◌∷◌, ℕ, List, IfOk, IfErr, OnOk, length};
+ghost use Rattle.std.specs.Prelude.{◌≡◌, ◌++◌, ◌+◌, ◌-◌, ◌<◌, ◌^◌, [], ◌∷◌, ℕ, List, IfOk, IfErr, OnOk, length};
 ghost use Rattle.object_values.specs.declared.value.Value.TheVariants as v;
 ghost use Rattle.api_text.specs.declared.outcome.Outcome.{Outcome};
 ghost use Rattle.api_text.specs.Making.{array_of};
-ghost use Rattle.api_text.specs.Outcomes.{Tells};
-ghost use Rattle.api_text.specs.Writing.{Made, MadeTexts, Stops, StopsOne};
+ghost use Rattle.object_heap.specs.Store.{Store};
+ghost use Rattle.value_walks.specs.Texts.{GivesWithin, Text};
+ghost use Rattle.api_text.specs.Outcomes.{Tells, followed_by};
+ghost use Rattle.api_text.specs.Writing.{Made, MadeTexts, Stops, StopsOne, told_of};
 
+use crate::errors::{too_deep, too_large};
 use crate::outcome::Outcome;
 use object_heap::Heap;
 use object_values::{Elements, Value};
 use pl_units::UText;
 use std::alloc::Global;
+use value_walks::{Output, TextErr};
 
 /// Why something is not made.
 #[derive(Clone, Copy)]
@@ -88,6 +92,32 @@ pub fn made(heap: &Heap, made: Result<UText, Stop>) -> Outcome
         Ok(text) => Outcome::Makes(text),
         Err(Stop::NoRoom) => Outcome::NoRoom,
         Err(Stop::NoMemory) => Outcome::NoMemory,
+    }
+}
+
+/// The outcome of the text of a walk, which was made if there was room for it.
+#[tactic(auto, using(crate::proofs::Room::made_whole, crate::proofs::Room::no_room_for_walk, crate::proofs::Room::deep_told, crate::proofs::Room::large_told, crate::proofs::Needing::text_needs))]
+pub fn text_made(heap: &Heap, made: Result<Option<UText>, TextErr>) -> Outcome
+    ensures { (walk : Text) → GivesWithin (heap.now.room - 1) walk made → Tells heap.now (followed_by walk Outcome.Makes) result }
+{
+    match made {
+        Ok(Some(text)) => Outcome::Makes(text),
+        Ok(None) => Outcome::NoRoom,
+        Err(TextErr::Deep) => too_deep(heap),
+        Err(TextErr::Large) => too_large(heap),
+        Err(TextErr::NoMemory) => Outcome::NoMemory,
+    }
+}
+
+/// The outcome of what was written to an output.
+#[tactic(auto, using(crate::proofs::Room::told_whole, crate::proofs::Room::told_over, crate::proofs::Needing::told_needs))]
+pub fn output_made(out: Output) -> Outcome
+    ensures { (store : Store) → Tells store (told_of out) result }
+{
+    match out.text() {
+        Ok(Some(text)) => Outcome::Makes(text),
+        Ok(None) => Outcome::NoRoom,
+        Err(_) => Outcome::NoMemory,
     }
 }
 

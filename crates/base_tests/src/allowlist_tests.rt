@@ -34,7 +34,7 @@ fn answers(alloc: Global, file: &[u8], wanted: (u8, u32)) -> bool {
 }
 
 /// Files, and what reading them answers: the number of the refusal, or 0, and the line.
-const FILES: [(&[u8], (u8, u32)); 68] = [
+const FILES: [(&[u8], (u8, u32)); 73] = [
     (b"", READ),
     (b"\n\n", READ),
     (b"# only a comment", READ),
@@ -112,6 +112,14 @@ const FILES: [(&[u8], (u8, u32)); 68] = [
     ),
     (b"static_import {\n}\n", (24, 1)),
     (b"class java.util.List {\nstatic_import {\n}\n", (23, 2)),
+    (b"class java.util.List {\nstatic_import { x\n}\n", (23, 2)),
+    (b"class java.util.List {\nstatic_import x\n}\n", (24, 2)),
+    (
+        b"class java.util.List {\nstatic_import[] x(int)\n}\n",
+        (24, 2),
+    ),
+    (b"class java.util.List {\nstatic_import 9x\n}\n", (23, 2)),
+    (b"static_import x\n", (23, 1)),
     (b"class java.util.List {\r\n}\n", (23, 1)),
     (b"class java.util.List {\n def get(int,)\n}\n", (23, 2)),
     (b"class java.util.List {\n def get int\n}\n", (23, 2)),

@@ -111,7 +111,7 @@ fn files_in_memory(rt: HostRuntime) -> Result<(), Fail> {
 #[test]
 fn standard_files(rt: HostRuntime) -> Result<(), Fail> {
     let alloc = rt.alloc();
-    let mut files = StdFiles::new(&rt);
+    let mut files = StdFiles::new(alloc, &rt);
     for (name, limit, want) in &[
         (
             "/proc/sys/kernel/ostype",

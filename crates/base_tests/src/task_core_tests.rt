@@ -1,4 +1,6 @@
-//! Tasks that note their turns.
+//! Tasks that note their turns, and tasks that take steps over what they share.
 
+mod adding;
 mod noting;
+mod steps;
 mod tests;

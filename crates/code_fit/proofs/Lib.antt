@@ -1,3 +1,4 @@
 pub mod Words
 pub mod Nexts
 pub mod Steps
+pub mod Codes

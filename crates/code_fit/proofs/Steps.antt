@@ -5,6 +5,7 @@ use Rattle.pl_types.specs.declared.ty.Ty.{Ty}
 use Rattle.pl_types.specs.declared.ty.Ty.TheVariants as ty
 use Rattle.pl_types.specs.Texts.{type_of_full}
 use Rattle.object_values.specs.declared.object.Object.{Object}
+use Rattle.object_values.specs.declared.object.Owner.{Owner}
 use Rattle.object_values.specs.declared.value.Value.{Value}
 use Rattle.object_values.specs.declared.value.Value.TheVariants as v
 use Rattle.object_heap.specs.Effects.{Effect}
@@ -51,14 +52,14 @@ use Rattle.run_fit.proofs.Containers.{AccessFits}
 use Rattle.run_fit.proofs.Effects.{beginnings_fit, outcomes_fit, casts_fit, concatenation_fits, equality_fits, members_fit, throwing_fits}
 use Rattle.code_meaning.specs.declared.word.Word.{Word}
 use Rattle.code_meaning.specs.declared.word.Word.TheVariants.{I, J, R}
-use Rattle.code_meaning.specs.Members.{Receiving, Unfit, OnNull, Receives, Reads, count_of, given_as, received, references_in, taken, taken_alike, ints_in}
+use Rattle.code_meaning.specs.Members.{Receiving, Unfit, OnNull, Receives, Reads, count_of, given_as, received, references_in, taken, taken_alike, taken_result, ints_in}
 use Rattle.code_meaning.specs.Words.{Calculation, NoRow, Calculates, boxed, calculation, unboxed, word_of, start_of, takes_one, is_shift, one_int, two_ints, one_long, two_longs, long_and_int, op_of, op_of_dynamic}
 use Rattle.arithmetic.specs.declared.operator.Op.{Op}
-use Rattle.code_meaning.specs.Machine.{Codes, code_in, function_of, Frame, Next, Goes, Ends, Stuck, Handlers, is_instance, lands, traps_of, unwind, on_top, on_int, on_reference, on_value, on_values, on_first, on_local, on_stack, on_words, to_line, take_words, copied, pushed, depth_of, is_written, on_outcome, on_done, on_thrown, on_found, on_found_paid, on_access, on_put, on_put_paid, on_write, dynamic_given, on_operated, operator_act, sized_act, method_act, on_calculation, gives_back, returns, returns_of, on_turn, on_enter, on_call, on_act, on_paid, on_tested, on_received, plain_act, numbered_act, quoted_act, typed_act, member_act, act, acts, lines_of, step, start_at, after}
+use Rattle.code_meaning.specs.Machine.{Codes, code_in, function_of, Frame, Next, Goes, Ends, Stuck, Handlers, is_instance, lands, traps_of, unwind, on_top, on_int, on_reference, on_value, on_values, on_first, on_local, on_stack, on_words, to_line, take_words, copied, pushed, depth_of, is_written, on_outcome, on_done, on_thrown, on_found, on_found_paid, on_access, on_put, on_put_paid, on_write, dynamic_given, on_operated, operator_act, sized_act, method_act, on_calculation, on_given, cast_each, gives_back, returns, returns_of, on_turn, on_enter, on_call, on_act, on_paid, on_tested, on_received, plain_act, numbered_act, quoted_act, typed_act, member_act, act, acts, lines_of, step, start_at, after}
 use Rattle.code_fit.specs.Laws.{StartsFit, StepsFit, RunsFit}
 use Rattle.code_fit.specs.Moments.{WordFits, WordsFit, FramesFit, ResultFits, NextFits}
 use Rattle.code_fit.proofs.Nexts.{int_holds, long_holds, type_holds, ints_hold, loops_hold, either_holds, chosen_holds, null_holds}
-use Rattle.code_fit.proofs.Words.{frames_grow, words_grow, words_join, starts_fit, words_set, FoundFits, word_at, CopiedFit, pop_fits, dup_fits, dup2_fits, dupx1_fits, dupx2_fits, TakenFit, take_fits, unboxed_fits, number_fits, given_fits, boxed_fits, taken_fits, references_fit, alike_fit, ReceivingFits, received_fits}
+use Rattle.code_fit.proofs.Words.{frames_grow, words_grow, words_join, starts_fit, words_set, FoundFits, word_at, CopiedFit, pop_fits, dup_fits, dup2_fits, dupx1_fits, dupx2_fits, TakenFit, take_fits, unboxed_fits, number_fits, given_fits, boxed_fits, taken_fits, taken_result_fits, references_fit, alike_fit, ReceivingFits, received_fits}
 
 -- ---- the operands of a calculation
 
@@ -207,6 +208,20 @@ module _ (rules : Rules) (before : List Object) where
     thrown_fits (Raised id w') f below w h g = unwind_fits (f ∷ below) id w' (g.0, frames_grow (count_in w) (count_in w') g.1 (f ∷ below) h.1) g.2
     thrown_fits Full f below w h g = h.0
 
+    -- ---- the casts that are due
+
+    given_on : (o : Outcome Value) (f : Frame) (below : List Frame) (w : World) (next : Value → World → Next) → Here w (f ∷ below) → OutcomeFits rules before (count_in w) o
+        → ((value : Value) (w' : World) → Here w' (f ∷ below) → ValueFits (count_in w') value → N (next value w')) → N (on_given codes limits o f below w next)
+    given_on (Given value w') f below w next h g k = k value w' (g.0, frames_grow (count_in w) (count_in w') g.1 (f ∷ below) h.1) g.2
+    given_on (Raised id w') f below w next h g k = unwind_fits (f ∷ below) id w' (g.0, frames_grow (count_in w) (count_in w') g.1 (f ∷ below) h.1) g.2
+    given_on Full f below w next h g k = h.0
+
+    each_fits : (tos : List Ty) (value : Value) (f : Frame) (below : List Frame) (w : World) → Here w (f ∷ below) → ValueFits (count_in w) value → N (cast_each codes limits tos value f below w)
+    each_fits [] value f below w h x = line_fits f below w (suc f.line) (R value ∷ f.stack) h (x, h.1.0.1)
+    each_fits (to ∷ tos) value f below w h x =
+        given_on (acts_in w (effect w.store (cast_at_run_time w.store.objects value to false))) f below w _ h (casts_fit rules before w value to false h.0 x)
+        (λ value w' h' x'. each_fits tos value f below w' h' x')
+
     -- ---- members
 
     act_fits : (o : Option Effect) (t : MemberType) (f : Frame) (below : List Frame) (w : World) (stack : List Word) → Here w (f ∷ below) → WordsFit (count_in w) stack → DoneFits rules before w o
@@ -218,8 +233,8 @@ module _ (rules : Rules) (before : List Object) where
         → AllFit (count_in w) arguments → SameStore w c → N (on_paid codes limits c number arguments t f below stack)
     paid_fits (Passes limit w') number arguments t f below w stack h s g p = same_store w w' p h.0
     paid_fits (Counts w') number arguments t f below w stack h s g p =
-        act_fits (does limits.host number arguments w'.store) t f below w' stack (same_frames w w' (f ∷ below) p h) (same_words w w' stack p s)
-        (members_fit rules before w' limits.host number arguments (same_store w w' p h.0) (subst (λ (x : Store). AllFit (length x.objects) arguments) (sym p) g))
+        act_fits (does limits.ground.host number arguments w'.store) t f below w' stack (same_frames w w' (f ∷ below) p h) (same_words w w' stack p s)
+        (members_fit rules before w' limits.ground.host number arguments (same_store w w' p h.0) (subst (λ (x : Store). AllFit (length x.objects) arguments) (sym p) g))
 
     tested_fits : (suits : Bool) (number : ℕ) (arguments : List Value) (t : MemberType) (f : Frame) (below : List Frame) (w : World) (stack : List Word) → Here w (f ∷ below) → WordsFit (count_in w) stack
         → AllFit (count_in w) arguments → N (on_tested codes limits suits number arguments t f below w stack)
@@ -235,7 +250,7 @@ module _ (rules : Rules) (before : List Object) where
         outcome_fits (acts_in w (effect w.store null_error)) (given_as t.result) (given_fits t.result) f below w stack h s (outcomes_fit rules before w null_error h.0 tt)
     received_act_fits (Receives arguments) number t f below w stack h s g = tested_fits (suits_member w.store.objects t arguments) number arguments t f below w stack h s g
     received_act_fits Reads number t f below w stack h s g =
-        act_fits (does limits.host number [] w.store) t f below w stack h s (members_fit rules before w limits.host number [] h.0 tt)
+        act_fits (does limits.ground.host number [] w.store) t f below w stack h s (members_fit rules before w limits.ground.host number [] h.0 tt)
 
     -- ---- what is found for a receiver when the code runs
 
@@ -251,8 +266,8 @@ module _ (rules : Rules) (before : List Object) where
         → AllFit (count_in w) arguments → SameStore w c → N (on_found_paid codes limits c number arguments f below stack)
     found_paid_fits (Passes limit w') number arguments f below w stack h s g p = same_store w w' p h.0
     found_paid_fits (Counts w') number arguments f below w stack h s g p =
-        found_fits (does limits.host number arguments w'.store) f below w' stack (same_frames w w' (f ∷ below) p h) (same_words w w' stack p s)
-        (members_fit rules before w' limits.host number arguments (same_store w w' p h.0) (subst (λ (x : Store). AllFit (length x.objects) arguments) (sym p) g))
+        found_fits (does limits.ground.host number arguments w'.store) f below w' stack (same_frames w w' (f ∷ below) p h) (same_words w w' stack p s)
+        (members_fit rules before w' limits.ground.host number arguments (same_store w w' p h.0) (subst (λ (x : Store). AllFit (length x.objects) arguments) (sym p) g))
 
     access_fits : (a : Access) (f : Frame) (below : List Frame) (w : World) (stack : List Word) → Here w (f ∷ below) → WordsFit (count_in w) stack → AccessFits rules before w a
         → N (on_access codes limits a f below w stack)
@@ -268,8 +283,8 @@ module _ (rules : Rules) (before : List Object) where
         → AllFit (count_in w) arguments → SameStore w c → N (on_put_paid codes limits c number arguments f below stack)
     put_paid_fits (Passes limit w') number arguments f below w stack h s g p = same_store w w' p h.0
     put_paid_fits (Counts w') number arguments f below w stack h s g p =
-        put_fits (does limits.host number arguments w'.store) f below w' stack (same_frames w w' (f ∷ below) p h) (same_words w w' stack p s)
-        (members_fit rules before w' limits.host number arguments (same_store w w' p h.0) (subst (λ (x : Store). AllFit (length x.objects) arguments) (sym p) g))
+        put_fits (does limits.ground.host number arguments w'.store) f below w' stack (same_frames w w' (f ∷ below) p h) (same_words w w' stack p s)
+        (members_fit rules before w' limits.ground.host number arguments (same_store w w' p h.0) (subst (λ (x : Store). AllFit (length x.objects) arguments) (sym p) g))
 
     write_fits : (a : Access) (f : Frame) (below : List Frame) (w : World) (stack : List Word) → Here w (f ∷ below) → WordsFit (count_in w) stack → AccessFits rules before w a
         → N (on_write codes limits a f below w stack)
@@ -312,7 +327,8 @@ module _ (rules : Rules) (before : List Object) where
       gives_fit : (fs : List Frame) (due : List Ty) (result : Option Word) → FramesFit count fs → ResultFits count result → N (gives_back codes limits fs due result w)
       gives_fit [] due result h r = (here.0, r)
       gives_fit (g ∷ fs) [] result h r = line_fits g fs w (suc g.line) (pushed result g.stack) (here.0, h) (pushed_fits result g.stack r h.0.1)
-      gives_fit (g ∷ fs) (to ∷ more) result h r = tt
+      gives_fit (g ∷ fs) (from ∷ tos) result h r =
+          value_fits count (taken_result from result) _ (taken_result_fits count from result r) (λ value x. each_fits tos value g fs w (here.0, h) x)
 
       returns_fit : (kind : Option Slot) → N (returns_of codes limits kind f.stack (λ result. gives_back codes limits below f.due result w))
       returns_fit None = gives_fit below f.due None here.1.1 tt
@@ -328,9 +344,10 @@ module _ (rules : Rules) (before : List Object) where
           let h = same_frames w w' (f ∷ below) p here in
           record { world = h.0; frames = ((h.1.0.0, same_words w w' stack p s), h.1.1) }
 
-      enter_fits : (c : Counted) (k : ℕ) (g : FunCode) (args stack : List Word) → WordsFit count args → WordsFit count stack → SameStore w c → N (on_enter codes limits c k g [] f below w args stack)
-      enter_fits (Passes limit w') k g args stack a s p = same_store w w' p here.0
-      enter_fits (Counts w') k g args stack a s p =
+      enter_fits : (c : Counted) (text : Owner) (k : ℕ) (g : FunCode) (due : List Ty) (args stack : List Word) → WordsFit count args → WordsFit count stack → SameStore w c
+          → N (on_enter codes limits c text k g due f below w args stack)
+      enter_fits (Passes limit w') text k g due args stack a s p = same_store w w' p here.0
+      enter_fits (Counts w') text k g due args stack a s p =
           let h = same_frames w w' (f ∷ below) p here in
           record { world = h.0; frames = ((words_join (count_in w') args (map start_of g.locals) (same_words w w' args p a) (starts_fit (count_in w') g.locals), tt), ((h.1.0.0, same_words w w' stack p s), h.1.1)) }
 
@@ -338,7 +355,7 @@ module _ (rules : Rules) (before : List Object) where
       call_fits None k = tt
       call_fits (Some g) k =
           words_fit count _ _ (take_fits count (length g.params) f.stack [] here.1.0.1 tt)
-          (λ args stack a s. enter_fits (enter limits (depth_of below) w) k g args stack a s (call_keeps limits (depth_of below) w))
+          (λ args stack a s. enter_fits (enter limits (depth_of below) w) f.text k g [] args stack a s (call_keeps limits (depth_of below) w))
 
       on_one : (next : Value → List Word → Next) → ((value : Value) (stack : List Word) → ValueFits count value → WordsFit count stack → N (next value stack))
           → N (on_top f.stack (λ word stack. on_reference word (λ value. next value stack)))

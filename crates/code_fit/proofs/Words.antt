@@ -18,10 +18,10 @@ use Rattle.pl_code.specs.declared.kinds.Slot.TheVariants as slot
 use Rattle.code_meaning.specs.declared.word.Word.{Word}
 use Rattle.code_meaning.specs.declared.word.Word.TheVariants.{I, J, R}
 use Rattle.code_meaning.specs.Machine.{Frame, take_words, copied}
-use Rattle.code_meaning.specs.Members.{Receiving, Unfit, OnNull, Receives, Reads, reference_in, references_in, taken, taken_alike, taken_layer, taken_all, before, receives, receives_on, received_by, received, given_layer, given_as}
+use Rattle.code_meaning.specs.Members.{Receiving, Unfit, OnNull, Receives, Reads, reference_in, references_in, taken, taken_alike, taken_layer, taken_result_layer, taken_result, taken_all, before, receives, receives_on, received_by, received, given_layer, given_as}
 use Rattle.code_meaning.specs.Words.{start_of, word_of, boxed, boxed_int, boxed_long, unboxed, plain_value}
 use Rattle.run_fit.proofs.Values.{value_grows, MadeFits, AllMadeFit, by_primitive}
-use Rattle.code_fit.specs.Moments.{WordFits, WordsFit, FramesFit}
+use Rattle.code_fit.specs.Moments.{WordFits, WordsFit, FramesFit, ResultFits}
 
 -- ---- more objects
 
@@ -177,6 +177,23 @@ taken_all_fits n (of ∷ ofs) (word ∷ words) f = before_fits n _ _ (taken_laye
 
 pub taken_fits : (n : ℕ) (of : Ty) (word : Word) → WordFits n word → MadeFits n (taken of word)
 taken_fits n of word f = taken_layer_fits n (out-Ty of) word f
+
+result_layer_fits : (n : ℕ) (layer : Ty-F Ty) (result : Option Word) → ResultFits n result → MadeFits n (taken_result_layer layer result)
+result_layer_fits n Ty-F.Void None f = tt
+result_layer_fits n Ty-F.Void (Some word) f = tt
+result_layer_fits n Ty-F.Null None f = tt
+result_layer_fits n Ty-F.Null (Some word) f = reference_fits n word f
+result_layer_fits n Ty-F.Def None f = tt
+result_layer_fits n Ty-F.Def (Some word) f = reference_fits n word f
+result_layer_fits n (Ty-F.Prim p) None f = tt
+result_layer_fits n (Ty-F.Prim p) (Some word) f = boxed_fits n p word
+result_layer_fits n (Ty-F.Class class) None f = tt
+result_layer_fits n (Ty-F.Class class) (Some word) f = reference_fits n word f
+result_layer_fits n (Ty-F.Array elem) None f = tt
+result_layer_fits n (Ty-F.Array elem) (Some word) f = reference_fits n word f
+
+pub taken_result_fits : (n : ℕ) (of : Ty) (result : Option Word) → ResultFits n result → MadeFits n (taken_result of result)
+taken_result_fits n of result f = result_layer_fits n (out-Ty of) result f
 
 pub references_fit : (n : ℕ) (words : List Word) → WordsFit n words → AllMadeFit n (references_in words)
 references_fit n [] f = tt

@@ -51,7 +51,7 @@ use Rattle.run_state.specs.Calls.{suits_member, wrong_class}
 use Rattle.run_state.specs.World.{World, Limits, Room, End, Result, Uncaught, Limited, Outcome, Given, Raised, Full, acts_in, Counted, Counts, Passes, allowed_in, take_turn, enter, pay_member}
 use Rattle.code_meaning.specs.declared.word.Word.{Word}
 use Rattle.code_meaning.specs.declared.word.Word.TheVariants.{I, J, R}
-use Rattle.code_meaning.specs.Members.{Receiving, Unfit, OnNull, Receives, Reads, received, count_of, given_as, taken, references_in, taken_alike, ints_in}
+use Rattle.code_meaning.specs.Members.{Receiving, Unfit, OnNull, Receives, Reads, received, count_of, given_as, taken, taken_result, references_in, taken_alike, ints_in}
 use Rattle.code_meaning.specs.Words.{start_of, word_of, Calculation, NoRow, Calculates, calculation, boxed, unboxed, bit, op_of_dynamic}
 
 -- The code of the two texts of a run: the script's, and the prelude's.
@@ -75,7 +75,8 @@ pub record Frame : Type 0 where
   pub locals : List Word
   pub stack : List Word
   pub turns : ℕ
-  -- the types to which what it gives is cast when it returns, the first of them first
+  -- The casts of what it gives, which are due when it returns: none, or the type that what it gives is of, and the types to which it is
+  -- cast, the first of them first.
   pub due : List Ty
 
 pub record Config : Type 0 where
@@ -263,11 +264,25 @@ module _ (codes : Codes) (limits : Limits) where
   on_calculation (Calculates None stack) f below w = on_outcome (acts_in w (effect w.store zero_divisor)) unboxed f below w stack
   on_calculation (Calculates (Some number) stack) f below w = to_line f below w (suc f.line) (word_of number ∷ stack)
 
-  -- the casts that are due, one after the other, and then the word goes on the caller's stack
+  -- what an operation gives goes on, in the world that it left
+  abbrev pub on_given : Outcome Value → Frame → List Frame → World → (Value → World → Next) → Next
+  on_given (Given value w') f below w next = next value w'
+  on_given (Raised id w') f below w next = unwind codes (f ∷ below) id w'
+  on_given Full f below w next = Ends (Limited Room w)
+
+  -- A value is cast to types, one after the other, each in the world that the one before it left, and then it goes on the caller's stack as
+  -- a reference. What a cast throws is thrown in the caller.
+  abbrev pub cast_each : List Ty → Value → Frame → List Frame → World → Next
+  cast_each [] value f below w = to_line f below w (suc f.line) (R value ∷ f.stack)
+  cast_each (to ∷ tos) value f below w =
+      on_given (acts_in w (effect w.store (cast_at_run_time w.store.objects value to false))) f below w (λ value w. cast_each tos value f below w)
+
+  -- the casts that are due: where there are none, the word goes on the caller's stack as it is
   abbrev pub cast_due : List Ty → Option Word → Frame → List Frame → World → Next
   cast_due [] result f below w = to_line f below w (suc f.line) (pushed result f.stack)
-  cast_due (to ∷ more) result f below w = Stuck
+  cast_due (from ∷ tos) result f below w = on_value (taken_result from result) (λ value. cast_each tos value f below w)
 
+  -- to the frame below, or, from the lowest one, as what the run gives
   abbrev pub gives_back : List Frame → List Ty → Option Word → World → Next
   gives_back [] due result w = Ends (Result result w)
   gives_back (f ∷ fs) due result w = cast_due due result f fs w
@@ -277,19 +292,25 @@ module _ (codes : Codes) (limits : Limits) where
   on_turn (Counts w') to f below w stack =
       Goes (record { top = record { text = f.text; fun = f.fun; line = to; locals = f.locals; stack = stack; turns = suc f.turns; due = f.due }; below = below; world = w' })
 
-  abbrev pub on_enter : Counted → ℕ → FunCode → List Ty → Frame → List Frame → World → List Word → List Word → Next
-  on_enter (Passes limit w') k g due f below w args stack = Ends (Limited limit w')
-  on_enter (Counts w') k g due f below w args stack =
+  -- Into a function of a text, whose code is g: its frame is of that text, and the frame below stays of its own.
+  abbrev pub on_enter : Counted → Owner → ℕ → FunCode → List Ty → Frame → List Frame → World → List Word → List Word → Next
+  on_enter (Passes limit w') text k g due f below w args stack = Ends (Limited limit w')
+  on_enter (Counts w') text k g due f below w args stack =
       Goes (record {
-        top = record { text = f.text; fun = k; line = 0; locals = args ++ map start_of g.locals; stack = []; turns = 0; due = due };
+        top = record { text = text; fun = k; line = 0; locals = args ++ map start_of g.locals; stack = []; turns = 0; due = due };
         below = record { text = f.text; fun = f.fun; line = f.line; locals = f.locals; stack = stack; turns = f.turns; due = f.due } ∷ below;
         world = w';
       })
 
+  -- a call of a function of a text, whose arguments lie on the stack
+  abbrev pub on_function : Option FunCode → Counted → Owner → ℕ → List Ty → Frame → List Frame → World → Next
+  on_function None counted text k due f below w = Stuck
+  on_function (Some g) counted text k due f below w =
+      on_words (take_words (length g.params) f.stack []) (λ args stack. on_enter counted text k g due f below w args stack)
+
+  -- a call by number: the function is of the caller's text, and no casts are due
   abbrev pub on_call : Option FunCode → ℕ → Frame → List Frame → World → Next
-  on_call None k f below w = Stuck
-  on_call (Some g) k f below w =
-      on_words (take_words (length g.params) f.stack []) (λ args stack. on_enter (enter limits (depth_of below) w) k g [] f below w args stack)
+  on_call o k f below w = on_function o (enter limits (depth_of below) w) f.text k [] f below w
 
   -- whether a function has a limit of turns
   abbrev pub on_loops : Option FunCode → (Bool → Next) → Next
@@ -313,7 +334,7 @@ module _ (codes : Codes) (limits : Limits) where
 
   abbrev pub on_found_paid : Counted → ℕ → List Value → Frame → List Frame → List Word → Next
   on_found_paid (Passes limit w) number arguments f below stack = Ends (Limited limit w)
-  on_found_paid (Counts w) number arguments f below stack = on_found (does limits.host number arguments w.store) f below w stack
+  on_found_paid (Counts w) number arguments f below stack = on_found (does limits.ground.host number arguments w.store) f below w stack
 
   abbrev pub on_access : Access → Frame → List Frame → World → List Word → Next
   on_access (Calls number arguments) f below w stack = on_found_paid (pay_member f.text number w) number arguments f below stack
@@ -325,7 +346,7 @@ module _ (codes : Codes) (limits : Limits) where
 
   abbrev pub on_put_paid : Counted → ℕ → List Value → Frame → List Frame → List Word → Next
   on_put_paid (Passes limit w) number arguments f below stack = Ends (Limited limit w)
-  on_put_paid (Counts w) number arguments f below stack = on_put (does limits.host number arguments w.store) f below w stack
+  on_put_paid (Counts w) number arguments f below stack = on_put (does limits.ground.host number arguments w.store) f below w stack
 
   abbrev pub on_write : Access → Frame → List Frame → World → List Word → Next
   on_write (Calls number arguments) f below w stack = on_put_paid (pay_member f.text number w) number arguments f below stack
@@ -443,7 +464,7 @@ module _ (codes : Codes) (limits : Limits) where
 
   abbrev pub on_paid : Counted → ℕ → List Value → MemberType → Frame → List Frame → List Word → Next
   on_paid (Passes limit w) number arguments t f below stack = Ends (Limited limit w)
-  on_paid (Counts w) number arguments t f below stack = on_act (does limits.host number arguments w.store) t f below w stack
+  on_paid (Counts w) number arguments t f below stack = on_act (does limits.ground.host number arguments w.store) t f below w stack
 
   -- a receiver or an argument of another class throws before the call is paid
   abbrev pub on_tested : Bool → ℕ → List Value → MemberType → Frame → List Frame → World → List Word → Next
@@ -455,7 +476,7 @@ module _ (codes : Codes) (limits : Limits) where
   on_received Unfit number t f below w stack = Stuck
   on_received OnNull number t f below w stack = on_outcome (acts_in w (effect w.store null_error)) (given_as t.result) f below w stack
   on_received (Receives arguments) number t f below w stack = on_tested (suits_member w.store.objects t arguments) number arguments t f below w stack
-  on_received Reads number t f below w stack = on_act (does limits.host number [] w.store) t f below w stack
+  on_received Reads number t f below w stack = on_act (does limits.ground.host number [] w.store) t f below w stack
 
   -- a call of the member of this number, if there is one
   abbrev pub member_act : Option ℕ → Frame → List Frame → World → Next

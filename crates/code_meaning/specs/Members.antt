@@ -23,6 +23,16 @@ taken_layer other word = reference_in word
 abbrev pub taken : Ty → Word → Option Value
 taken of word = taken_layer (out-Ty of) word
 
+-- What a function of a type gives, as a value: what gives no word gives null.
+abbrev pub taken_result_layer : Ty-F Ty → Option Word → Option Value
+taken_result_layer Ty-F.Void None = Some v.Null
+taken_result_layer Ty-F.Void (Some word) = None
+taken_result_layer layer None = None
+taken_result_layer layer (Some word) = taken_layer layer word
+
+abbrev pub taken_result : Ty → Option Word → Option Value
+taken_result of result = taken_result_layer (out-Ty of) result
+
 abbrev pub before : Option Value → Option (List Value) → Option (List Value)
 before (Some value) (Some values) = Some (value ∷ values)
 before value values = None

@@ -20,6 +20,7 @@ pub mod Wanting
 pub mod Lying
 pub mod Flowing
 pub mod Handled
+pub mod Locals
 pub mod Whole
 -- Lemmas of the libraries below, passed on.
 pub use Rattle.source_meaning.proofs.Greater

@@ -29,7 +29,7 @@ use Rattle.codegen.proofs.Plans.{values_end, values_more}
 use Rattle.codegen.proofs.Steps.{instead, never}
 use Rattle.codegen.specs.declared.error.CodeError.{CodeError}
 
-drop_at : {A : Type 0} (at : ℕ) (all : List A) (one : A) → slice_get all at ≡ Some one → drop at all ≡ one ∷ drop (suc at) all
+pub drop_at : {A : Type 0} (at : ℕ) (all : List A) (one : A) → slice_get all at ≡ Some one → drop at all ≡ one ∷ drop (suc at) all
 drop_at zero [] one is = absurd cc
 drop_at zero (x ∷ all) one is = ap (λ t. t ∷ all) cc
 drop_at (suc at) [] one is = absurd cc

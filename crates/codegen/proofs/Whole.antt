@@ -15,7 +15,7 @@ use Rattle.compiler_relation.specs.Representation.{Absent, representation_of, ki
 use Rattle.source_meaning.specs.object_values_declared.object.Owner.TheVariants.{Script}
 use Rattle.compiler_relation.specs.Correct.{IsCodeOf}
 use Rattle.compiler_relation.specs.Placed.{untrapped, CatchesCover, StmtsIn}
-use Rattle.compiler_relation.specs.Stands.{EndAt, traps_stmts, ArePresent, Compiled, representations_of, scope_of, no_jumps, all_fall, end_stmts, end_end, kinds_of}
+use Rattle.compiler_relation.specs.Stands.{EndAt, locals_stmts, traps_stmts, ArePresent, Compiled, representations_of, scope_of, no_jumps, all_fall, end_stmts, end_end, next_stmts, kinds_of}
 use Rattle.codegen.specs.Checks.{denoted}
 use Rattle.codegen.specs.Labels.{settled_line}
 use Rattle.codegen.specs.Worklist.{Run, End, Meets, Back, entry, scope_in, next_in}
@@ -25,6 +25,7 @@ use Rattle.codegen.specs.declared.config.Config.{Config}
 use Rattle.codegen.specs.declared.symbols.Entry as d
 use Rattle.codegen.proofs.Known.{parameters_named}
 use Rattle.codegen.proofs.Parts.{drop_one, drop_end}
+use Rattle.codegen.proofs.Locals.{locals_of_body}
 
 pub got_mapped : {A B : Type 0} (f : A → B) (xs : List A) (at : ℕ) (x : A) → slice_get xs at ≡ Some x → slice_get (map f xs) at ≡ Some (f x)
 got_mapped f [] at x e = absurd cc
@@ -56,9 +57,15 @@ function_stands funs fun c c' code cover begun back finished =
         params = finished.params;
         locals = λ at kind e. ap (λ ls. slice_get ls at) finished.locals ∙ e;
       };
-      stand = (ap length finished.lines ∙ length_mapped (settled_line c'.labels) c'.lines, finished.traps ∙ sym (append-nil c'.traps));
+      stand = (
+        ap length finished.lines ∙ length_mapped (settled_line c'.labels) c'.lines,
+        finished.traps ∙ sym (append-nil c'.traps),
+        omega (arith, ap length finished.params, ap length finished.locals),
+      );
     } in
     let s = back.by code c'.labels m in
+    let params : code.params ≡ kinds_of fun.params = s.holds.params ∙ begun.params in
+    let first : length code.params ≡ length fun.params = ap length params ∙ length_mapped (λ (x : Variable). kind_of x.of) fun.params in
     let n : next_in c ≡ length fun.params = omega (arith, ap length begun.params, length_mapped (λ (x : Variable). kind_of x.of) fun.params, ap length begun.locals) in
     let p : length c.lines ≡ 0 = ap length begun.lines in
     let placed =
@@ -69,12 +76,15 @@ function_stands funs fun c c' code cover begun back finished =
     let ends = subst (λ p. EndAt (untrapped code) (all_fall fun.body) (end_stmts p fun.body) fun.result) p s.stand.1.2.0 in
     let traps : code.traps ≡ traps_stmts 0 fun.body =
     s.stand.1.2.1.1 ∙ ap (λ ts. ts ++ (traps_stmts (length c.lines) fun.body ++ [])) begun.traps ∙ append-nil (traps_stmts (length c.lines) fun.body) ∙ ap (λ p. traps_stmts p fun.body) p in
+    let locals : code.locals ≡ locals_stmts fun.body =
+    locals_of_body funs (untrapped code) (representation_of fun.result) (scope_of fun.params 0 []) (length fun.params) no_jumps 0 fun.body placed first (s.stand.1.2.1.2 ∙ ap (λ n. next_stmts n fun.body) n) in
     let covered = cover funs code (representation_of fun.result) (scope_of fun.params 0 []) (length fun.params) fun.body fun.result traps placed ends in
     record {
       loops = finished.loops;
-      params = s.holds.params ∙ begun.params;
+      params = params;
       present = begun.present;
       result = finished.result;
+      locals = locals;
       stands = covered.0;
       ends = covered.1;
       lines = s.stand.1.2.1.0 ∙ ap (λ p. end_end (all_fall fun.body) (end_stmts p fun.body) fun.result) p;
@@ -167,7 +177,7 @@ pub all_written : (funs : Program) (codes : List FunCode) → Written funs funs 
 all_written funs codes w = record {
   each = λ number fun e.
       let a = code_at funs funs codes w number fun e in
-      record { body = a.0; is = a.1; loops = a.2.loops; params = a.2.params; present = a.2.present; result = a.2.result; stands = a.2.stands; ends = a.2.ends; lines = a.2.lines; traps = a.2.traps };
+      record { body = a.0; is = a.1; loops = a.2.loops; params = a.2.params; present = a.2.present; result = a.2.result; locals = a.2.locals; stands = a.2.stands; ends = a.2.ends; lines = a.2.lines; traps = a.2.traps };
   many = as_many funs funs codes w;
 }
 

@@ -5,7 +5,7 @@ use Rattle.typed_tree.specs.declared.program.TypedFunction.{TypedFunction}
 use Rattle.pl_code.specs.declared.code.FunCode.{FunCode}
 use Rattle.source_meaning.specs.Tree.{Fun, Program}
 use Rattle.compiler_relation.specs.Representation.{representation_of, result_of}
-use Rattle.compiler_relation.specs.Stands.{ArePresent, Compiled, StmtsAt, EndAt, representations_of, scope_of, no_jumps, all_fall, end_stmts, end_end, kinds_of, traps_stmts}
+use Rattle.compiler_relation.specs.Stands.{ArePresent, Compiled, StmtsAt, EndAt, representations_of, scope_of, no_jumps, all_fall, end_stmts, end_end, kinds_of, locals_stmts, traps_stmts}
 use Rattle.codegen.specs.Checks.{denoted}
 use Rattle.pl_types.specs.declared.ty.Ty.{Ty}
 use Rattle.pl_code.specs.declared.kinds.Slot.{Slot}
@@ -26,12 +26,13 @@ abbrev pub function_at : typed.Program → ℕ → Option TypedFunction
 function_at p zero = Some p.main
 function_at p (suc number) = slice_get p.functions number
 
--- A function's code: its turns are limited, its parameters, its result and what its body does, and no further line.
+-- A function's code: its turns are limited, its parameters, its result and what its body does, and no further line, local or trap line.
 pub record FunStands (funs : Program) (body : FunCode) (fun : Fun) : Type 0 where
   pub loops : body.loops ≡ true
   pub params : body.params ≡ kinds_of fun.params
   pub present : ArePresent (representations_of fun.params)
   pub result : body.result ≡ result_of fun.result
+  pub locals : body.locals ≡ locals_stmts fun.body
   pub stands : StmtsAt funs body [] (representation_of fun.result) (scope_of fun.params 0 []) (length fun.params) no_jumps 0 fun.body
   pub ends : EndAt body (all_fall fun.body) (end_stmts 0 fun.body) fun.result
   pub lines : length body.lines ≡ end_end (all_fall fun.body) (end_stmts 0 fun.body) fun.result

@@ -241,10 +241,10 @@ pub record Grown (g later : Scope) : Type 0 where
 abbrev pub Trapped : Type 0
 Trapped = List Trap → List Trap
 
--- What is still to be written stands in this code, whose labels have these lines, and no further line and no further trap line.
+-- What is still to be written stands in this code, whose labels have these lines, and no further line, local or trap line.
 module _ (funs : Program) (k : Representation) (f : FunCode) (labels : List (Option ℕ)) where
   abbrev pub Stand : List Item → Scope → ℕ → ℕ → List Flow → Trapped → Type 0
-  Stand [] g n p flows whole = (length f.lines ≡ p) × (f.traps ≡ whole [])
+  Stand [] g n p flows whole = (length f.lines ≡ p) × (f.traps ≡ whole []) × (length f.params + length f.locals ≡ n)
   Stand (Value e ∷ todo) g n p flows whole = ExprAt funs (untrapped f) [] g p e × Stand todo g n (end_expr p e) flows whole
   Stand (Values es wanted ∷ todo) g n p flows whole = (ExprsAt funs (untrapped f) [] g p es × Wants wanted (representations es)) × Stand todo g n (end_exprs p es) flows whole
   Stand (Put is ∷ todo) g n p flows whole = AllAt (untrapped f) [] p is × Stand todo g n (end_all p is) flows whole

@@ -1,3 +1,4 @@
+pub mod Asking
 pub mod Found
 pub mod Delivering
 pub mod Reporting

@@ -1,6 +1,7 @@
 pub mod Told
 pub mod Reports
 pub mod Files
+pub mod Asking
 pub mod Stops
 pub mod Ending
 pub mod Writing

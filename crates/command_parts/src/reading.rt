@@ -1,6 +1,7 @@
 //! Files that commands read.
 
-ghost use Rattle.std.specs.Prelude.{◌≡◌, ◌≤◌, ℕ, List, Option, length, IfOk, IfSome};
+ghost use Rattle.std.specs.Prelude.{◌≡◌, ◌≤◌, ℕ, List, [], ◌∷◌, ◌++◌, Option, length, IfOk, IfSome, OnOk};
+ghost use Rattle.outer_io.specs.Asking.{AsksFront};
 ghost use Rattle.outer_io.specs.Faults.{HasCause};
 ghost use Rattle.command_parts.specs.Told.{file_limit};
 ghost use Rattle.command_parts.specs.Files.{file_told};
@@ -20,6 +21,8 @@ pub fn read_file<F: Files>(alloc: Global, name: &str, files: &mut F) -> Result<V
     ensures found { (found : Option (List ℕ)) × IfSome (F.content files.old) (λ known. known name.now ≡ found) × ComesSo (λ bytes. bytes.items) result (file_told found) }
     ensures kept { F.content files.new ≡ F.content files.old }
     ensures cause { HasCause Stop.FileFault (F.faults files.old) (F.faults files.new) result }
+    ensures asks { AsksFront (F.asked files.old) (F.asked files.new) (name.now ∷ []) }
+    ensures noted { OnOk result (F.asked files.new ≡ F.asked files.old ++ name.now ∷ []) }
 {
     match files.read(alloc, name, FILE_LIMIT) {
         Ok(Found::Bytes(bytes)) => Ok(bytes),

@@ -25,5 +25,5 @@ CodeHasRows = (text : Owner) (funs : Known) (code : List FunCode) → WellFormed
 abbrev pub ProgramsRun : Type 0
 ProgramsRun =
     (allow : AllowList) (p : typed.Program) (code prelude : List FunCode) → WellFormed (known allow (program_of p)) → Reached (program_of p) → IsCodeOf p code
-    → (limits : Limits) → limits.allowed ≡ allow → (words : List Word) (w : World) → kinds_of words ≡ main_params code → ReachesAllowed allow w
+    → (limits : Limits) → limits.ground.allowed ≡ allow → (words : List Word) (w : World) → kinds_of words ≡ main_params code → ReachesAllowed allow w
     → EndsWithin allow code prelude limits (most_steps code limits w.ticks) (start (codes_of code prelude) words w)

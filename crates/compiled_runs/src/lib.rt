@@ -5,3 +5,4 @@ mod laws;
 
 pub use compiled_shapes::code_is_well_shaped;
 pub use laws::programs_run;
+pub use verifier_soundness::verified_run_laws;

@@ -54,13 +54,13 @@ module _ (funs : Programs) (codes : Codes) (limits : Limits) where
       → Follows codes limits c [] g (land_flow funs codes limits c no_jumps q) (Good falling continuing) from o → end_of c.result o ≡ Some r → Leads codes limits from r
   finishes c g falling continuing q none ends from (Done Normal s e) r d is =
       let same : Result (low (representation_of c.result) (default_of c.result)) s.world ≡ r = cc in
-      let last : Leads codes limits (gives_back codes limits c.below [] (low (representation_of c.result) (default_of c.result)) s.world) r =
-      subst (λ b. Leads codes limits (gives_back codes limits b [] (low (representation_of c.result) (default_of c.result)) s.world) r) (sym none)
+      let last : Leads codes limits (gives_back codes limits c.below c.due (low (representation_of c.result) (default_of c.result)) s.world) r =
+      subst (λ b. Leads codes limits (gives_back codes limits b c.due (low (representation_of c.result) (default_of c.result)) s.world) r) (sym none)
       (subst (λ r. Leads codes limits (Ends (Result (low (representation_of c.result) (default_of c.result)) s.world)) r) same (ended codes limits _)) in
       d r (λ l f good. function_ends codes limits c falling q l s r ends good last)
   finishes c g falling continuing q none ends from (Done (Returned value) s e) r d is =
       let same : Result (low (representation_of c.result) value) s.world ≡ r = cc in
-      d r (λ l f good. subst (λ b. Leads codes limits (gives_back codes limits b [] (low (representation_of c.result) value) s.world) r) (sym none)
+      d r (λ l f good. subst (λ b. Leads codes limits (gives_back codes limits b c.due (low (representation_of c.result) value) s.world) r) (sym none)
       (subst (λ r. Leads codes limits (Ends (Result (low (representation_of c.result) value) s.world)) r) same (ended codes limits _)))
   finishes c g falling continuing q none ends from (Done Broke s e) r d is = cc
   finishes c g falling continuing q none ends from (Done Continued s e) r d is = cc
@@ -86,7 +86,7 @@ ends_alike reads texts funs codes made limits main is args words are w bound end
         let count : length main.params ≡ length args = entry_count main.params args [] env q in
         let same : words ≡ words_at (representations_of main.params) args = words_are main.params args words fa.present count are.are in
         let locals = words_at (representations_of main.params) args ++ map start_of fa.body.locals in
-        let c : Ctx codes = record { text = Script; fun = 0; body = fa.body; result = main.result; below = []; is = fa.is; loops = fa.loops; gives = fa.result } in
+        let c : Ctx codes = record { text = Script; fun = 0; body = fa.body; result = main.result; below = []; due = []; is = fa.is; loops = fa.loops; gives = fa.result } in
         let scope = scope_of main.params 0 [] in
         let s : State = record { world = w; turns = 0 } in
         let fits = starts_fitting fa.body main args env q fa.present (as_many Script funs.script codes.script 0 main fa) in

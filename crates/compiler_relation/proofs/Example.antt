@@ -40,6 +40,7 @@ main_stands = record {
   params = refl;
   present = tt;
   result = refl;
+  locals = refl;
   stands = (
     ((here refl, refl), refl),
     unboxed_some,

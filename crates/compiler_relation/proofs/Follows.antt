@@ -15,13 +15,14 @@ use Rattle.compiler_relation.specs.Representation.{Representation, Unboxed, Boxe
 use Rattle.compiler_relation.specs.Stands.{Entry, Scope, At}
 use Rattle.compiler_relation.proofs.Locals.{Fits, leaves}
 
--- where code runs: a function of a text, and the frames below
+-- where code runs: a function of a text, the frames below, and the casts that are due of what it gives
 pub record Ctx (codes : Codes) : Type 0 where
   pub text : Owner
   pub fun : ℕ
   pub body : FunCode
   pub result : Ty
   pub below : List Frame
+  pub due : List Ty
   pub is : slice_get (code_in codes text) fun ≡ Some body
   pub loops : body.loops ≡ has_loop_limit text
   pub gives : body.result ≡ result_of result
@@ -47,7 +48,7 @@ module _ (codes : Codes) (limits : Limits) where
 
   -- a place in the code
   abbrev pub frame : Ctx codes → ℕ → List Word → List Word → State → Frame
-  frame c line l st s = record { text = c.text; fun = c.fun; line = line; locals = l; stack = st; turns = s.turns; due = [] }
+  frame c line l st s = record { text = c.text; fun = c.fun; line = line; locals = l; stack = st; turns = s.turns; due = c.due }
 
   abbrev pub at : Ctx codes → ℕ → List Word → List Word → State → Next
   at c line l st s = Goes (record { top = frame c line l st s; below = c.below; world = s.world })
@@ -75,14 +76,14 @@ module _ (codes : Codes) (limits : Limits) where
 
   -- an exception under these handlers
   abbrev pub thrown : Ctx codes → Handlers → ℕ → State → List Word → Next
-  thrown c h id s l = lands h c.text c.fun l s.turns [] c.below id s.world (unwind codes c.below id s.world)
+  thrown c h id s l = lands h c.text c.fun l s.turns c.due c.below id s.world (unwind codes c.below id s.world)
 
   pub throws : (c : Ctx codes) (h : Handlers) (line : ℕ) (i : Instruction) (l st : List Word) (id : ℕ) (s : State) (r : End (Option Word)) → At c.body h line i
       → Leads (thrown c h id s l) r → Leads (unwind codes (frame c line l st s ∷ c.below) id s.world) r
   throws c h line i l st id s r a d =
       let trap : traps_of (slice_get (code_in codes c.text) c.fun) line ≡ h = ap (λ o. traps_of o line) c.is ∙ a.traps in
       let same : unwind codes (frame c line l st s ∷ c.below) id s.world ≡ thrown c h id s l =
-      ap (λ o. lands o c.text c.fun l s.turns [] c.below id s.world (unwind codes c.below id s.world)) trap in
+      ap (λ o. lands o c.text c.fun l s.turns c.due c.below id s.world (unwind codes c.below id s.world)) trap in
       record { steps = d.steps; reaches = ap (after codes limits d.steps) same ∙ d.reaches }
 
   -- what happened, and where that leads

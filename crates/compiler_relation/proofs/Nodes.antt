@@ -3,6 +3,7 @@ pub mod Dynamic
 pub mod References
 pub mod Casts
 pub mod Exprs
+pub mod Due
 pub mod Calls
 pub mod Members
 pub mod Containers

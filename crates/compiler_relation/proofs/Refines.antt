@@ -41,7 +41,7 @@ module _ (funs : Programs) (codes : Codes) (limits : Limits) where
   land_flow c j to Normal s l = at codes limits c to l [] s
   land_flow c j to Broke s l = at codes limits c j.out l [] s
   land_flow c j to Continued s l = at codes limits c j.on l [] s
-  land_flow c j to (Returned value) s l = gives_back codes limits c.below [] (low (representation_of c.result) value) s.world
+  land_flow c j to (Returned value) s l = gives_back codes limits c.below c.due (low (representation_of c.result) value) s.world
 
   abbrev pub ExprRuns : (Place → State → Env → Out Value) → Expr → Type 0
   ExprRuns o t =

@@ -18,6 +18,7 @@ use Rattle.typed_tree.specs.declared.operation.Operation.TheVariants as operatio
 use Rattle.typed_tree.specs.declared.operation.Operator.TheVariants as operator
 use Rattle.typed_tree.specs.declared.operation.Target.TheVariants as target
 use Rattle.typed_tree.specs.declared.operation.Gives.TheVariants as gives
+use Rattle.typed_tree.specs.declared.program.FunctionKind.TheVariants as function
 use Rattle.compiler_relation.specs.Stands.{Compiled}
 use Rattle.source_meaning.specs.Tree.{Expr, Literal, Local, Apply, Modify, None', One, Missing, Given, Do, While, Return, Finish, Then, Declare, Fun}
 
@@ -32,6 +33,7 @@ number n = Literal 0 int (constant.Int (pos n))
 
 abbrev pub main : Fun
 main = record {
+  kind = function.Main;
   captured = [];
   params = [];
   result = int;

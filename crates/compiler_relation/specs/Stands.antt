@@ -465,6 +465,29 @@ abbrev mutual
   next_catches n NoCatch = n
   next_catches n (Catch class x body rest) = next_catches (next_stmts (suc n) body) rest
 
+-- The kinds of the locals of a part, in their order: one for each variable that it declares, and one for what each of its catches takes.
+abbrev mutual
+  pub locals_stmt : Stmt → List Slot
+  locals_stmt (Do a) = []
+  locals_stmt (If c a b) = locals_stmts a ++ locals_stmts b
+  locals_stmt (While test update body) = locals_stmts body
+  locals_stmt (DoWhile body test) = locals_stmts body
+  locals_stmt (Try body catches) = locals_stmts body ++ locals_catches catches
+  locals_stmt (Block body) = locals_stmts body
+  locals_stmt Break = []
+  locals_stmt Continue = []
+  locals_stmt (Return value) = []
+  locals_stmt (Throw value) = []
+
+  pub locals_stmts : Stmts → List Slot
+  locals_stmts Finish = []
+  locals_stmts (Then t rest) = locals_stmt t ++ locals_stmts rest
+  locals_stmts (Declare x of value rest) = kind_of of ∷ locals_stmts rest
+
+  pub locals_catches : Catches → List Slot
+  locals_catches NoCatch = []
+  locals_catches (Catch class x body rest) = kind_of (t.Class class) ∷ (locals_stmts body ++ locals_catches rest)
+
 -- ---- traps
 
 -- the catches that stand from a line on
@@ -625,7 +648,8 @@ abbrev pub end_end : Bool → ℕ → Ty → ℕ
 end_end false p of = p
 end_end true p of = suc (end_all p (default_code of))
 
--- A function's code: its body, and what it gives where that falls, and no further line. Its text tells whether it has a limit of turns.
+-- A function's code: its body, and what it gives where that falls, and no further line, local or trap line. Its text tells whether it has a
+-- limit of turns.
 pub record FunAt (text : Owner) (funs : Program) (code : List FunCode) (number : ℕ) (fun : Fun) : Type 0 where
   pub body : FunCode
   pub is : slice_get code number ≡ Some body
@@ -633,6 +657,7 @@ pub record FunAt (text : Owner) (funs : Program) (code : List FunCode) (number :
   pub params : body.params ≡ kinds_of fun.params
   pub present : ArePresent (representations_of fun.params)
   pub result : body.result ≡ result_of fun.result
+  pub locals : body.locals ≡ locals_stmts fun.body
   pub stands : StmtsAt funs body [] (representation_of fun.result) (scope_of fun.params 0 []) (length fun.params) no_jumps 0 fun.body
   pub ends : EndAt body (all_fall fun.body) (end_stmts 0 fun.body) fun.result
   pub lines : length body.lines ≡ end_end (all_fall fun.body) (end_stmts 0 fun.body) fun.result

@@ -6,7 +6,7 @@ use Rattle.allowlist.specs.declared.member.MemberType.{MemberType}
 use Rattle.allowlist.specs.Allow.{is_in_prelude}
 use Rattle.allowlist.specs.Catalogue.{catalogue}
 use Rattle.allowlist.proofs.Tables.{length-catalogue}
-use Rattle.container_calls.specs.Laws.{is_container_class}
+use Rattle.container_calls.specs.Laws.{is_container_class, JoinIsNamed}
 use Rattle.container_calls.specs.Members.{container_ranges, in_ranges, is_of_containers}
 use Rattle.container_calls.proofs.Ranges.{no_container, of_containers}
 
@@ -69,3 +69,9 @@ built_stand number h = elim (slice_get_cases catalogue number).1 [
   | inl there ↦ ap is_some there.2
   | inr past ↦ absurd (both_ways (is_of_containers number) (no_container number (omega (arith, length-catalogue, past.0))) h)
 ]
+
+-- ---- the member whose number a definition takes from the code
+
+pub join_is_named : JoinIsNamed
+unfolding catalogue
+join_is_named = refl

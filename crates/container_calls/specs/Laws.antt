@@ -1,9 +1,10 @@
 -- Laws over the definitions.
-use Rattle.std.specs.Prelude.{◌≡◌, ℕ, Bool, true, false, Some, List, ◌++◌, length, slice_get, is_some, nat_le, not, ◌==◌, ◌&&◌, ◌||◌}
-use Rattle.pl_types.specs.declared.classes.TheConstants.{ITERABLE, COLLECTIONS, SCRIPT_DOC_VALUES}
+use Rattle.std.specs.Prelude.{◌≡◌, ℕ, Bool, true, false, Some, List, ◌++◌, length, slice_get, option_map, is_some, nat_le, not, ◌==◌, ◌&&◌, ◌||◌, codes}
+use Rattle.pl_types.specs.declared.classes.TheConstants.{ITERABLE, COLLECTIONS, SCRIPT_DOC_VALUES, STRING}
 use Rattle.allowlist.specs.declared.member.MemberType.{MemberType}
 use Rattle.allowlist.specs.Allow.{is_in_prelude}
 use Rattle.allowlist.specs.Catalogue.{catalogue}
+use Rattle.api_iter.specs.declared.joining.TheConstants.{STRING_JOIN}
 use Rattle.object_values.specs.declared.object.Object.{Object}
 use Rattle.object_values.specs.declared.value.Value.{Value}
 use Rattle.object_heap.specs.Effects.{Effect, Gives, Throws, NoRoom}
@@ -45,3 +46,11 @@ BuiltAlone = (number : ℕ) (member : MemberType) → slice_get catalogue number
 -- a member that is built stands in the catalogue
 abbrev pub BuiltStand : Type 0
 BuiltStand = (number : ℕ) → is_of_containers number ≡ true → is_some (slice_get catalogue number) ≡ true
+
+-- the class, the name and how many parameters a member of the catalogue has
+abbrev pub heading : MemberType → ℕ × (List ℕ × ℕ)
+heading member = (member.owner, (member.name, length member.params))
+
+-- the one member whose number a definition takes from the code is the one that is meant: `join` of a String, of two arguments
+abbrev pub JoinIsNamed : Type 0
+JoinIsNamed = option_map heading (slice_get catalogue STRING_JOIN) ≡ Some (STRING, (codes "join", 2))

@@ -86,10 +86,10 @@ fn put(pairs: &mut Pairs, key: Value, value: Value) -> Result<(), AllocError>
 }
 
 // Keys and values by turns, as pairs.
-fn pairs_of(alloc: Global, parts: &[Value]) -> Result<Pairs, AllocError>
+fn pairs_of(heap: &Heap, parts: &[Value]) -> Result<Pairs, AllocError>
     ensures { IfOk result (λ pairs. pairs ≡ with_pairs [] (spec.pairs_in parts.now)) }
 {
-    let mut pairs = Pairs::new(alloc);
+    let mut pairs = Pairs::new(heap.alloc(), heap.seed());
     let mut left = parts;
     'parts: while let [key, value, others @ ..] = left {
         put(&mut pairs, key.share()?, value.share()?)?;
@@ -104,7 +104,7 @@ fn map_told(heap: &Heap, parts: &[Value]) -> Outcome
     if !have_simple_keys(parts) {
         return not_simple(heap);
     }
-    match pairs_of(heap.alloc(), parts) {
+    match pairs_of(heap, parts) {
         Ok(pairs) => Outcome::New(new_map(pairs)),
         Err(_) => Outcome::NoMemory,
     }

@@ -5,7 +5,7 @@ use Rattle.object_values.specs.declared.value.Value.{Value}
 use Rattle.value_walks.specs.declared.TheConstants.{VISITS}
 use Rattle.value_walks.specs.declared.equality.Walked.{Walked}
 use Rattle.value_walks.specs.declared.equality.Walked.TheVariants as w
-use Rattle.value_walks.specs.Equality.{equal_of}
+use Rattle.value_walks.specs.Equality.{equal_entries_of, equal_of}
 use Rattle.container_outcomes.specs.declared.comparing.Compared.{Compared}
 use Rattle.container_outcomes.specs.declared.comparing.Compared.TheVariants as c
 use Rattle.container_outcomes.specs.declared.comparing.Found.{Found}
@@ -22,6 +22,10 @@ compared_by w.Large = c.Large
 -- deep equality of two values, by a walk of its own
 unfoldable pub comparison : List Object → Value → Value → Compared
 comparison objects a b = compared_by (equal_of objects a b VISITS)
+
+-- deep equality of two entries, each by its map and its key, by a walk of its own: as of two entries that are objects
+unfoldable pub entry_comparison : List Object → ℕ → Value → ℕ → Value → Compared
+entry_comparison objects map key other_map other_key = compared_by (equal_entries_of objects map key other_map other_key VISITS)
 
 abbrev pub where_equal : Compared → Outcome → Outcome → Outcome
 where_equal c.Same same other = same

@@ -9,7 +9,7 @@ mod outcome;
 mod paying;
 mod values;
 
-pub use comparing::{Compared, Found, compare};
+pub use comparing::{Compared, Found, compare, compare_entries};
 pub use errors::{
     array_index_error, fails, index_error, not_simple, null_error, says, too_deep, too_large,
     unsupported,

@@ -2,6 +2,7 @@
 
 mod bulk;
 mod collections;
+mod deep;
 mod making;
 mod many;
 mod maps;

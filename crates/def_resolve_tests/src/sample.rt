@@ -1,7 +1,7 @@
 //! Lists of what is allowed, and a heap with objects of every kind.
 use allowlist::{Allow, Catalogue};
 use object_heap::Heap;
-use object_values::{Elements, Guard, Object, Owner, Pairs, Part, Target, Value};
+use object_values::{Elements, Guard, Object, Owner, Pairs, Part, Seed, Target, Value};
 use pl_types::classes::{
     ARRAY_LIST, COMPARATOR, FUNCTION, HASH_MAP, HASH_SET, ILLEGAL_ARGUMENT_EXCEPTION,
     SCRIPT_DOC_VALUES, STRING,
@@ -118,13 +118,13 @@ fn place_collections(alloc: Global, heap: &mut Heap) -> Result<(), AllocError> {
     heap.place(list(alloc, ARRAY_LIST)?)?;
     heap.place(Object::Map {
         class: HASH_MAP,
-        pairs: Pairs::new(alloc),
+        pairs: Pairs::new(alloc, Seed::of(b"test")),
         guard: Guard::Open,
         changes: 0,
     })?;
     heap.place(Object::Set {
         class: HASH_SET,
-        items: Pairs::new(alloc),
+        items: Pairs::new(alloc, Seed::of(b"test")),
         guard: Guard::Open,
         changes: 0,
     })?;
@@ -168,7 +168,7 @@ fn place_others(alloc: Global, heap: &mut Heap) -> Result<(), AllocError> {
 /// 7 to 9 views of keys, values and entries, 10 an entry, 11 an iterator, 12 a builder, 13 a lambda, 14 a Function, 15 a
 /// Comparator, 16 an exception.
 pub fn heap(alloc: Global, room: u64) -> Result<Heap, AllocError> {
-    let mut heap = Heap::new(alloc, room);
+    let mut heap = Heap::new(alloc, room, Seed::of(b"test"));
     place_collections(alloc, &mut heap)?;
     place_others(alloc, &mut heap)?;
     Ok(heap)

@@ -6,6 +6,7 @@ use job_file::Mapping;
 use json_bridge::{bind, give};
 use json_reading::{Scratch, read_json};
 use object_heap::Heap;
+use object_values::Seed;
 use search_ctx::{Fields, SearchKind, bind_line};
 use serde_json::Value as Json;
 use std::alloc::{AllocError, Global};
@@ -108,7 +109,7 @@ fn is_answered(heap: &mut Heap, json: &Json) -> bool {
 
 // Whether a document that is read comes so far.
 fn goes_on(alloc: Global, part: Part, json: &Json) -> bool {
-    let mut heap = Heap::new(alloc, ROOM);
+    let mut heap = Heap::new(alloc, ROOM, Seed::of(b"bench"));
     match part {
         Part::Bound => bind(&mut heap, json, false).is_ok(),
         Part::Answered => is_answered(&mut heap, json),
@@ -124,6 +125,7 @@ fn is_started(job: &Job, line: &str, scratch: &mut Scratch) -> bool {
         &job.params,
         line.as_bytes(),
         ROOM,
+        Seed::of(b"job"),
         scratch,
     )
     .is_ok()

@@ -108,6 +108,7 @@ impl<D: DocumentScript> DocumentJob<D> {
             &settings.params,
             line,
             settings.room,
+            settings.seed,
             &mut scratch.reading,
         ) {
             Ok(bound) => self.reply_to_bound(bound, &mut scratch.running),

@@ -5,7 +5,7 @@ use Rattle.object_values.specs.declared.value.Value.{Value}
 use Rattle.allowlist.specs.Allow.{full_list}
 use Rattle.run_state.specs.World.{End}
 use Rattle.typed_tree.specs.declared.program.Program.{Program}
-use Rattle.script_engine.specs.Codes.{ScriptCodes}
+use Rattle.script_engine.specs.Codes.{ScriptCodes, empty_program}
 use Rattle.script_engine.specs.Programs.{IsProgramOf}
 use Rattle.script_engine.specs.Stages.{GoesOn}
 use Rattle.script_engine.specs.Laws.{TextsAreAnsweredOnce, ProgramsEndOnce, CodesCountOnce}
@@ -40,7 +40,7 @@ module _ (texts : TextsAreAnsweredOnce) where
 module _ (texts : TextsAreAnsweredOnce) (ends : ProgramsEndOnce) where
   runs_once : (p : Program) → Once (RunsProgram p)
   runs_once p a b (end, runs, is) (other, others, is_other) =
-      is ∙ ap (λ (x : End Value). Ok x) (ends p eval_limits [] eval_world end other runs others) ∙ sym is_other
+      is ∙ ap (λ (x : End Value). Ok x) (ends p empty_program eval_limits [] eval_world end other runs others) ∙ sym is_other
 
   text_once : (text : List ℕ) → Once (MeansText text)
   text_once text = then_once (IsProgramOf full_list eval_types text) RunsProgram (texts full_list eval_types text) runs_once
@@ -51,7 +51,7 @@ module _ (texts : TextsAreAnsweredOnce) (ends : ProgramsEndOnce) where
   module _ (counts : CodesCountOnce) (codes : ScriptCodes) where
     end_once : (answer : Result (End Value) Refusal) (a b : Told) → TellsEnd codes answer a → TellsEnd codes answer b → a ≡ b
     end_once (Ok end) a b (steps, is, at) (others, goes, to) =
-        at ∙ ap (λ (n : ℕ). end_told codes end n) (counts codes.script eval_limits [] eval_world steps others is goes) ∙ sym to
+        at ∙ ap (λ (n : ℕ). end_told codes end n) (counts codes eval_limits [] eval_world steps others is goes) ∙ sym to
     end_once (Err refusal) a b h k = h ∙ sym k
 
     pub script_once : (script : List ℕ) (a b : Told) → TellsScript codes script a → TellsScript codes script b → a ≡ b

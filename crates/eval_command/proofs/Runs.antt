@@ -18,7 +18,7 @@ use Rattle.script_engine.specs.Seen.{limit_of, limits_of}
 use Rattle.json_replies.specs.Replies.{line_of, refusal_of, reply_of}
 use Rattle.script_engine.specs.Faults.{shape_fault}
 use Rattle.script_engine.specs.declared.compiling.Script.{Script}
-use Rattle.script_engine.specs.Codes.{Counts, IsListed, ScriptCodes}
+use Rattle.script_engine.specs.Codes.{Counts, IsListed, ScriptCodes, empty_program, script_codes}
 use Rattle.script_engine.specs.Programs.{IsProgramOf}
 use Rattle.script_engine.specs.Compiling.{Compiles}
 use Rattle.script_engine.specs.Laws.{TextsAreAnsweredOnce, CodesAreListed, PreludeIsListed}
@@ -30,7 +30,7 @@ use Rattle.eval_command.specs.declared.script.EvalRun.{EvalRun}
 use Rattle.eval_command.specs.Answers.{told_by}
 use Rattle.eval_command.specs.Codes.{AreCodesOfText, AreCodesOf}
 use Rattle.eval_command.specs.Evaluation.{which_of, reply_to, end_told, listings_of, TellsScript}
-use Rattle.eval_command.specs.Outcomes.{EndsSo, Comes, machine_limits, RunsAsEval, CountsAsEval, codes_of, RunsListed, RunsCodes}
+use Rattle.eval_command.specs.Outcomes.{EndsSo, Comes, machine_limits, RunsAsEval, CountsAsEval, RunsListed, RunsCodes}
 use Rattle.eval_command.specs.Script.{Decodes, eval_types, eval_world, MeansText, Means}
 
 -- the one program of the text, whose script has run
@@ -57,14 +57,14 @@ pub text_codes : TextsAreAnsweredOnce → CodesAreListed → PreludeIsListed →
     → Compiles full_list eval_types (IsProgramOf full_list eval_types text) (Ok script) → shape_fault full_list script.executable.code ≡ None → RunsListed script ran
     → RunsCodes (AreCodesOfText text) ran
 text_codes texts listed prelude text script ran (p, is, made) sound of = (
-  codes_of script,
+  script_codes script,
   λ q goes. (
-    subst (λ (r : Program). IsListed full_list eval_types r script.executable.code) (one_program p q (Ok p) (Ok q) refl refl (texts full_list eval_types text (Ok p) (Ok q) is goes))
+    subst (λ (r : Program). IsListed full_list eval_types r empty_program (script_codes script)) (one_program p q (Ok p) (Ok q) refl refl (texts full_list eval_types text (Ok p) (Ok q) is goes))
         (listed full_list eval_types p script made sound),
-    prelude,
+    prelude full_list q script.executable.code,
   ),
   record {
-    counts = subst (λ (a : AllowList). Counts script.executable.code (limits_of machine_limits a) [] eval_world ran.outcome.steps) made.allowed of.counts;
+    counts = subst (λ (a : AllowList). Counts (script_codes script) (limits_of machine_limits a) [] eval_world ran.outcome.steps) made.allowed of.counts;
     listed = of.listed;
   },
 )
@@ -124,6 +124,6 @@ runs_as_eval script (Ok o) h = λ p is. h full_list eval_types p is tt
 runs_as_eval script (Err error) h = tt
 
 pub counts_as_eval : (script : Script) (result : Result Outcome AllocError)
-    → IfOk result (λ o. Counts script.executable.code (limits_of machine_limits script.executable.allow) [] (world_at eval_world.store machine_limits) o.steps) → IfOk result (CountsAsEval script)
+    → IfOk result (λ o. Counts (script_codes script) (limits_of machine_limits script.executable.allow) [] (world_at eval_world.store machine_limits) o.steps) → IfOk result (CountsAsEval script)
 counts_as_eval script (Ok o) h = h
 counts_as_eval script (Err error) h = tt

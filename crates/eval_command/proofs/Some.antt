@@ -12,7 +12,7 @@ use Rattle.typed_tree.specs.declared.program.Program.{Program}
 use Rattle.script_engine.specs.TypingSoundnessLaws.{IsContext}
 use Rattle.script_engine.proofs.Types.{built_named, def_built}
 use Rattle.json_replies.specs.Replies.{line_of, refusal_of}
-use Rattle.script_engine.specs.Codes.{ScriptCodes}
+use Rattle.script_engine.specs.Codes.{ScriptCodes, empty_program}
 use Rattle.script_engine.specs.Programs.{IsProgramOf}
 use Rattle.script_engine.specs.Laws.{TextsAreAnswered, ProgramsEnd, ListedCodesCount}
 use Rattle.script_engine.proofs.Texts.{Answered}
@@ -68,7 +68,7 @@ module _ (texts : TextsAreAnswered) (ends : ProgramsEnd) (counted : ListedCodesC
       → (told : Told) × TellsScript codes script told
   program_some script text decodes are (Ok p) is =
       let end = ends full_list eval_types text p is_context is eval_limits refl [] tt eval_world in
-      let count = counted full_list eval_types p codes.script (are p is).0 machine_limits eval_world.store [] tt in
+      let count = counted full_list eval_types p empty_program codes (are p is).0 machine_limits eval_world.store [] tt in
       (end_told codes end.0 count.0, (Ok end.0, (Ok text, decodes, (Ok p, is, (end.0, end.1, refl))), (count.0, count.1, refl)))
   program_some script text decodes are (Err refusal) is =
       (uncounted s.Refused (line_of (refusal_of refusal)), (Err refusal, (Ok text, decodes, (Err refusal, is, refl)), refl))

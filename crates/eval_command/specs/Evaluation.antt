@@ -39,9 +39,9 @@ abbrev pub end_told : ScriptCodes → End Value → ℕ → Told
 end_told codes end steps =
     record { status = status_of (is_error (reply_to end)); bytes = line_of (reply_to end); listings = listings_of codes; steps = steps }
 
--- what is told of what a script comes to: its reply, behind as many instructions of its code, or its refusal
+-- what is told of what a script comes to: its reply, behind as many instructions of the two codes, or its refusal
 abbrev pub TellsEnd : ScriptCodes → Result (End Value) Refusal → Told → Type 0
-TellsEnd codes (Ok end) told = (steps : ℕ) × Counts codes.script eval_limits [] eval_world steps × (told ≡ end_told codes end steps)
+TellsEnd codes (Ok end) told = (steps : ℕ) × Counts codes eval_limits [] eval_world steps × (told ≡ end_told codes end steps)
 TellsEnd codes (Err refusal) told = told ≡ uncounted s.Refused (line_of (refusal_of refusal))
 
 -- what is told of a script's bytes and of its codes

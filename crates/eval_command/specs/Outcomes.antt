@@ -9,7 +9,7 @@ use Rattle.object_heap.specs.declared.outcome.Outcome.{Outcome}
 use Rattle.run_state.specs.World.{End}
 use Rattle.typed_tree.specs.declared.program.Program.{Program}
 use Rattle.script_engine.specs.declared.compiling.Script.{Script}
-use Rattle.script_engine.specs.Codes.{Counts, ScriptCodes, prelude_code}
+use Rattle.script_engine.specs.Codes.{Counts, ScriptCodes, empty_program, script_codes}
 use Rattle.script_engine.specs.Compiling.{IsScriptOf}
 use Rattle.script_engine.specs.Running.{end_seen, world_left, IsOutcome}
 use Rattle.script_engine.specs.machine_declared.configuration.Limits.{Limits}
@@ -35,27 +35,23 @@ machine_limits = record { loops = eval_limits.loop; depth = eval_limits.depth; t
 
 -- a script runs as each program does that it is of, in the context of `eval`
 abbrev pub RunsAsEval : Script → Outcome → Type 0
-RunsAsEval script o = (p : Program) → IsScriptOf full_list eval_types p script → IsOutcome full_list p eval_world.store [] machine_limits o
+RunsAsEval script o = (p : Program) → IsScriptOf full_list eval_types p script → IsOutcome full_list p empty_program eval_world.store [] machine_limits o
 
--- .. and so many instructions of its code are counted
+-- .. and so many instructions of its code are counted, beside the prelude's
 abbrev pub CountsAsEval : Script → Outcome → Type 0
-CountsAsEval script o = Counts script.executable.code (limits_of machine_limits script.executable.allow) [] eval_world o.steps
+CountsAsEval script o = Counts (script_codes script) (limits_of machine_limits script.executable.allow) [] eval_world o.steps
 
 -- ---- codes
-
--- the code of a script, and that of the prelude
-abbrev pub codes_of : Script → ScriptCodes
-codes_of script = record { script = script.executable.code; prelude = prelude_code }
 
 -- the run of a script, with the listings of its codes
 pub record RunsListed (script : Script) (ran : EvalRun) : Type 0 where
   pub runs : RunsAsEval script ran.outcome
   pub counts : CountsAsEval script ran.outcome
-  pub listed : map string_bytes ran.listings.items ≡ listings_of (codes_of script)
+  pub listed : map string_bytes ran.listings.items ≡ listings_of (script_codes script)
 
 -- a run with the listings of these codes, of which so many instructions are counted
 pub record RunsOver (ran : EvalRun) (codes : ScriptCodes) : Type 0 where
-  pub counts : Counts codes.script eval_limits [] eval_world ran.outcome.steps
+  pub counts : Counts codes eval_limits [] eval_world ran.outcome.steps
   pub listed : map string_bytes ran.listings.items ≡ listings_of codes
 
 -- .. where these are some codes

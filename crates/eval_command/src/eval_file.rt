@@ -1,6 +1,7 @@
 //! From a file's name to what is written.
 
-ghost use Rattle.std.specs.Prelude.{◌≡◌, ◌≢◌, ◌⊎◌, ℕ, List, Option, IfSome, length, ◌≤◌};
+ghost use Rattle.std.specs.Prelude.{◌≡◌, ◌≢◌, ◌⊎◌, ℕ, List, [], ◌∷◌, Option, IfSome, length, ◌≤◌};
+ghost use Rattle.outer_io.specs.Asking.{AsksFront};
 ghost use Rattle.outer_io.specs.Faults.{next_count};
 ghost use Rattle.script_engine.specs.Codes.{ScriptCodes};
 ghost use Rattle.command_parts.specs.Before.{EndsBefore};
@@ -31,6 +32,8 @@ pub fn eval<F: Files, K: Sink>(alloc: Global, name: &str, files: &mut F, out: &m
     ensures written { result.status ≢ Status.WriteFault → K.faults out.new ≡ K.faults out.old }
     ensures filed { result.status ≢ Status.FileFault → F.faults files.new ≡ F.faults files.old }
     ensures contents { F.content files.new ≡ F.content files.old }
+    // No other file is asked for.
+    ensures asks { AsksFront (F.asked files.old) (F.asked files.new) (name.now ∷ []) }
 {
     match files.read(alloc, name, FILE_LIMIT) {
         Ok(Found::Bytes(script)) => write_answer(alloc, script.as_slice(), out),

@@ -5,6 +5,7 @@ ghost use Rattle.script_engine.specs.Rows.{HaveRows};
 ghost use Rattle.pl_types.specs.Answers.{Answers};
 ghost use Rattle.pl_types.specs.declared.refusal.Refusal.{Refusal};
 ghost use Rattle.allowlist.specs.Allow.{full_list};
+ghost use Rattle.object_values.specs.Seeds.{seed_of};
 ghost use Rattle.script_engine.specs.Faults.{shape_fault};
 ghost use Rattle.script_engine.specs.Programs.{IsProgramOf};
 ghost use Rattle.script_engine.specs.Compiling.{Compiles};
@@ -12,11 +13,13 @@ ghost use Rattle.script_engine.specs.Running.{TakesArguments};
 ghost use Rattle.eval_command.specs.Script.{Decodes, Means, MeansText, eval_types};
 ghost use Rattle.eval_command.specs.Evaluation.{listings_of};
 ghost use Rattle.eval_command.specs.Codes.{AreCodesOf, AreCodesOfText};
-ghost use Rattle.eval_command.specs.Outcomes.{Comes, CountsAsEval, RunsAsEval, RunsCodes, RunsListed, codes_of};
+ghost use Rattle.eval_command.specs.Outcomes.{Comes, CountsAsEval, RunsAsEval, RunsCodes, RunsListed};
+ghost use Rattle.script_engine.specs.Codes.{script_codes};
 ghost use Rattle.command_parts.specs.Told.{file_limit};
 
 use allowlist::{Allow, Catalogue};
 use object_heap::{Heap, Outcome};
+use object_values::Seed;
 use pl_types::{Fail, Refusal, Ty, rules};
 use plain_data::Items;
 use script_engine::{Limits, Script, code_laws, compile, script_laws};
@@ -67,14 +70,14 @@ pub struct EvalRun {
     pub listings: Vec<String>,
 }
 
-/// Runs a script with the default limits.
-fn run(alloc: Global, script: &Script) -> Result<Outcome, AllocError>
+/// Runs a script with the default limits, over a heap that is made from a seed.
+fn run(alloc: Global, script: &Script, seed: Seed) -> Result<Outcome, AllocError>
     requires rows { HaveRows script.now.executable.allow script.now.executable.code.functions }
     requires takes { TakesArguments script.now [] }
     ensures program { IfOk result (RunsAsEval script.now) }
     ensures counts { IfOk result (CountsAsEval script.now) }
 {
-    let heap = Heap::new(alloc, 16_000_000);
+    let heap = Heap::new(alloc, 16_000_000, seed);
     let limits = Limits {
         loops: 1_000_000,
         depth: 256,
@@ -86,7 +89,7 @@ fn run(alloc: Global, script: &Script) -> Result<Outcome, AllocError>
 
 /// The listings of a script's code and of the prelude's.
 fn listings(alloc: Global, script: &Script) -> Result<Vec<String>, AllocError>
-    ensures { IfOk result (λ texts. map string_bytes texts.items ≡ listings_of (codes_of script.now)) }
+    ensures { IfOk result (λ texts. map string_bytes texts.items ≡ listings_of (script_codes script.now)) }
 {
     let mut texts = Vec::new(alloc);
     texts.push(script.listing(alloc)?)?;
@@ -95,14 +98,21 @@ fn listings(alloc: Global, script: &Script) -> Result<Vec<String>, AllocError>
 }
 
 /// Runs a script, and lists its code.
-fn run_listed(alloc: Global, script: &Script) -> Result<EvalRun, AllocError>
+fn run_listed(alloc: Global, script: &Script, seed: Seed) -> Result<EvalRun, AllocError>
     requires rows { HaveRows script.now.executable.allow script.now.executable.code.functions }
     requires takes { TakesArguments script.now [] }
     ensures { IfOk result (RunsListed script.now) }
 {
     let listings = listings(alloc, script)?;
-    let outcome = run(alloc, script)?;
+    let outcome = run(alloc, script, seed)?;
     Ok(EvalRun { outcome, listings })
+}
+
+/// From what the heap of a text's run is made, which changes no answer.
+fn seed_of(text: &str) -> Seed
+    ensures { result ≡ seed_of text.now }
+{
+    Seed::of(text.as_bytes())
 }
 
 /// What a text comes to under the full catalogue.
@@ -114,7 +124,7 @@ fn run_under(alloc: Global, allow: &Allow, text: &str) -> Result<EvalRun, Fail>
     script_laws();
     code_laws();
     match compiled(alloc, text, allow) {
-        Ok(script) => Ok(run_listed(alloc, &script)?),
+        Ok(script) => Ok(run_listed(alloc, &script, seed_of(text))?),
         Err(fail) => Err(fail),
     }
 }

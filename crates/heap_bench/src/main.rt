@@ -12,7 +12,7 @@ ghost use Rattle.std.specs.Prelude.{◌<◌};
 use members::measure_members;
 use number_ops::{Op, def_op};
 use object_heap::{Answer, Heap};
-use object_values::{Elements, Guard, Object, Pairs, Value};
+use object_values::{Elements, Guard, Object, Pairs, Seed, Value};
 use pl_types::classes::{ARRAY_LIST, EXCEPTION, HASH_MAP, HASH_SET};
 use std::alloc::Global;
 use std::rt::Clock;
@@ -45,7 +45,7 @@ fn name(call: Call) -> &'static str {
 const TIMES: u32 = 1_000_000;
 
 // What the pages say of memory rests on this.
-const _: () = prove!(size_of::<Object>() == 56);
+const _: () = prove!(size_of::<Object>() == 64);
 
 const _: () = prove!(size_of::<Value>() == 24);
 
@@ -101,10 +101,10 @@ fn call_often(heap: &mut Heap, call: Call, keys: u32) -> u32
 
 // A map of so many keys, and a list of as many items.
 fn filled(alloc: Global, keys: u32) -> Heap {
-    let mut heap = Heap::new(alloc, u64::MAX);
+    let mut heap = Heap::new(alloc, u64::MAX, Seed::of(b"bench"));
     let _ = heap.add(Object::Map {
         class: HASH_MAP,
-        pairs: Pairs::new(alloc),
+        pairs: Pairs::new(alloc, Seed::of(b"bench")),
         guard: Guard::Open,
         changes: 0,
     });
@@ -160,13 +160,13 @@ fn empty_object(alloc: Global, kind: Kind) -> Object {
         Kind::List => empty_list(alloc),
         Kind::Map => Object::Map {
             class: HASH_MAP,
-            pairs: Pairs::new(alloc),
+            pairs: Pairs::new(alloc, Seed::of(b"bench")),
             guard: Guard::Open,
             changes: 0,
         },
         Kind::Set => Object::Set {
             class: HASH_SET,
-            items: Pairs::new(alloc),
+            items: Pairs::new(alloc, Seed::of(b"bench")),
             guard: Guard::Open,
             changes: 0,
         },
@@ -186,7 +186,7 @@ fn give_one(heap: &mut Heap, kind: Kind, id: u32) {
 
 // How much room a million objects of a kind take.
 fn fill(alloc: Global, kind: Kind, has_one: bool) -> u64 {
-    let mut heap = Heap::new(alloc, u64::MAX);
+    let mut heap = Heap::new(alloc, u64::MAX, Seed::of(b"bench"));
     for id in 0..TIMES {
         let _ = heap.add(empty_object(alloc, kind));
         if has_one {

@@ -3,7 +3,7 @@ ghost use Rattle.std.specs.Prelude.{◌<◌};
 
 use container_calls::call;
 use object_heap::{Answer, Heap};
-use object_values::Value;
+use object_values::{Seed, Value};
 use std::alloc::Global;
 use std::io;
 use std::rt::Clock;
@@ -168,7 +168,7 @@ fn round(heap: &mut Heap, work: Work, size: u32) {
 
 // A map of so many numbers to themselves, the view of its keys, and a list of as many numbers in no order.
 fn filled(alloc: Global, size: u32) -> Heap {
-    let mut heap = Heap::new(alloc, u64::MAX);
+    let mut heap = Heap::new(alloc, u64::MAX, Seed::of(b"bench"));
     fill_map(&mut heap, size);
     let _ = call(KEY_SET, &mut heap, &[MAP]);
     let _ = call(NEW_LIST, &mut heap, &[]);

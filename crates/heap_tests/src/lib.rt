@@ -6,4 +6,6 @@ mod number_ops_tests;
 #[cfg(test)]
 mod object_heap_tests;
 #[cfg(test)]
+mod object_values_tests;
+#[cfg(test)]
 mod value_walks_tests;

@@ -1,5 +1,6 @@
 //! What the clauses of `object_values` and `object_heap` do not say: objects of each kind, and their room.
 
+mod builders;
 mod kinds;
 mod lists;
 mod making;

@@ -1,2 +1,8 @@
-pub mod Running
 pub mod Answers
+pub mod Coding
+pub mod Forms
+pub mod Keys
+pub mod Paths
+pub mod Reading
+pub mod Running
+pub mod Settings

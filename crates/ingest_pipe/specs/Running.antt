@@ -1,7 +1,6 @@
 -- What a pipeline makes of a document, by what its scripts say and make.
 use Rattle.std.specs.Prelude.{ℕ, ◌+◌, ◌-◌, ◌^◌, min, List, [], ◌∷◌, ◌++◌, Option, Some, None, codes}
 use Rattle.serde_json.specs.Data.{Data, string, object, no_members, member}
-use Rattle.serde_json.specs.View.{view}
 use Rattle.pipe_fields.specs.Documents.{DocData}
 use Rattle.pipe_fields.specs.Edits.{Edited, Becomes, Errs, set, remove, rename}
 use Rattle.ingest_pipe.specs.declared.processors.Action.{Action}
@@ -58,7 +57,7 @@ failure message = object (member (codes "kind") (string (codes "pipe-fail")) (me
 
 abbrev pub acted : (ℕ → DocData → Edited) → Action → DocData → Ran
 acted changed (action.Script script) doc = called script doc (changed script doc)
-acted changed (action.Set place value there) doc = still (made_of (set place (view value) there doc))
+acted changed (action.Set place value there) doc = still (made_of (set place value there doc))
 acted changed (action.Remove field missing) doc = still (made_of (remove field missing doc))
 acted changed (action.Rename field target missing) doc = still (made_of (rename field target missing doc))
 acted changed action.Drop doc = still (Drops doc)

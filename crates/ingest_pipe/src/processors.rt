@@ -2,10 +2,10 @@
 
 ghost use Rattle.std.specs.Prelude.{◌≡◌};
 
+use crate::literal::Literal;
 use crate::scripts::PipeScript;
 use pipe_fields::{Field, Place, WhenMissing, WhenThere};
-use plain_data::{Subtree, Text};
-use serde_json::Value;
+use plain_data::{Boxed, Items, Text};
 
 /// What follows where a processor fails.
 #[derive(Clone, Copy)]
@@ -31,7 +31,7 @@ pub enum Action {
     /// The script of this place among the pipeline's scripts changes the document.
     Script(usize),
     /// A value is put at a place.
-    Set(Place, Value, WhenThere),
+    Set(Place, Literal, WhenThere),
     /// A field is taken out.
     Remove(Field, WhenMissing),
     /// A field is taken out, and its value put at a target.
@@ -46,13 +46,13 @@ pub enum Action {
 #[derive(Drop)]
 pub enum Processors {
     End,
-    Then(Guard, Action, Subtree<Processors>, Subtree<Processors>),
+    Then(Guard, Action, Boxed<Processors>, Boxed<Processors>),
 }
 
-/// A pipeline: its processors, and their scripts in the order in which they are met.
+/// A pipeline: its processors, and their scripts in the order in which they are met. Contracts see it as plain data.
 pub struct Pipeline {
     pub processors: Processors,
-    pub scripts: Vec<PipeScript>,
+    pub scripts: Items<PipeScript>,
 }
 
 impl Drop for Action {
@@ -80,7 +80,7 @@ impl Drop for Pipeline {
 impl Pipeline {
     /// The scripts, in the order in which they are met.
     pub fn scripts(&self) -> &[PipeScript]
-        ensures { result.now ≡ self.now.scripts.items }
+        ensures { result.now ≡ self.now.scripts }
     {
         self.scripts.as_slice()
     }

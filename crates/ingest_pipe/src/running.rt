@@ -136,7 +136,9 @@ fn act<R: ScriptRunner>(
 {
     match action {
         Action::Script(script) => change(*script, runner, doc),
-        Action::Set(place, value, there) => { outcome_of(set(alloc, place, value, *there, doc)) }
+        Action::Set(place, value, there) => {
+            outcome_of(set(alloc, place, value.get(), *there, doc))
+        }
         Action::Remove(field, missing) => outcome_of(remove(alloc, field, *missing, doc)),
         Action::Rename(field, target, missing) => {
             outcome_of(rename(alloc, field, target, *missing, doc))

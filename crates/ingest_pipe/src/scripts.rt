@@ -1,16 +1,17 @@
 //! Scripts of pipelines.
 
-use serde_json::Value;
+use crate::literal::Literal;
+use plain_data::Text;
 
-/// A script of a pipeline.
+/// A script of a pipeline. Contracts see it as plain data.
 pub struct PipeScript {
     /// Where it stands, as `pipeline.0.set.if`.
-    pub path: String,
-    pub text: String,
+    pub path: Text,
+    pub text: Text,
     /// Whether it tests a document, and does not change one.
     pub test: bool,
     /// Its parameters: an object in which each number is a whole one of 64 bits with a sign.
-    pub params: Value,
+    pub params: Literal,
 }
 
 impl Drop for PipeScript {

@@ -1,8 +1,7 @@
 -- The answers of the code are those of the definition, and each document has one.
 use Rattle.std.proofs.Common.{◌≡◌, ℕ, List, [], ◌∷◌, Some, Result, Ok, Err, refl, sym, ap, ◌∙◌, subst}
-use Rattle.script_engine.specs.pl_code_declared.code.Code.{Code}
 use Rattle.typed_tree.specs.declared.program.Program.{Program}
-use Rattle.script_engine.specs.Codes.{IsListed}
+use Rattle.script_engine.specs.Codes.{IsListed, ScriptCodes, empty_program, script_codes}
 use Rattle.script_engine.specs.Compiling.{IsScriptOf}
 use Rattle.script_engine.specs.Laws.{ProgramsEnd, ProgramsEndOnce, CodesCountOnce, ListedCodesCount}
 use Rattle.script_engine.specs.Programs.{IsProgramOf}
@@ -65,9 +64,9 @@ answer_to Code Means (Err wrong) answer to is = is
 answer_to Code Means (Ok start) answer to (ran, ends, is) = (ran, to start refl ran ends, is)
 
 pub answers_mean : (job : PreparedJob) (p : Program) → IsScriptOf (read_view job.found).allow (types_of job.found.job.context) p job.script → kind_of job.found.job.context ≡ Some k.Field
-    → (x : ℕ) (answer : Answer) → GivesAnswers job x answer → IsAnswerOf (with_program job p) job.script.executable.code x answer
+    → (x : ℕ) (answer : Answer) → GivesAnswers job x answer → IsAnswerOf (with_program job p) (script_codes job.script) x answer
 answers_mean job p is of x answer gives =
-    answer_to (by_start (EndsAsItsProgram (limited job))) (EndsOver (with_program job p) job.script.executable.code) (start_over (documents_for k.Field job) x) answer
+    answer_to (by_start (EndsAsItsProgram (limited job))) (EndsOver (with_program job p) (script_codes job.script)) (start_over (documents_for k.Field job) x) answer
     (λ start bound ran ends. ends_over job p k.Field is of start ran (over_takes (documents_for k.Field job) x start bound) ends) gives
 
 -- the answers of what replies to the documents are those of its job
@@ -77,19 +76,19 @@ tally_so job d (documents, script) count t h =
     subst (λ (x : Documents). IsTally (IsAnswer x (by_start (EndsAsItsProgram (limited job)))) count t) documents
     (subst (λ (s : LimitedScript). IsTally (IsAnswer (documents_of d.settings) (by_start (EndsAsItsProgram s))) count t) script h)
 
-module _ (ends : ProgramsEndOnce) (counts : CodesCountOnce) (p : Prepared) (code : Code) where
-  to_once : (bound : Result Start Fault) (a b : Answer) → IsAnswerTo (EndsOver p code) bound a → IsAnswerTo (EndsOver p code) bound b → a ≡ b
+module _ (ends : ProgramsEndOnce) (counts : CodesCountOnce) (p : Prepared) (codes : ScriptCodes) where
+  to_once : (bound : Result Start Fault) (a b : Answer) → IsAnswerTo (EndsOver p codes) bound a → IsAnswerTo (EndsOver p codes) bound b → a ≡ b
   to_once (Err wrong) a b h k = h ∙ sym k
-  to_once (Ok start) a b (ran, ended, is) (other, ended', at) = is ∙ ap answer_of (over_once ends counts p code start ran other ended ended') ∙ sym at
+  to_once (Ok start) a b (ran, ended, is) (other, ended', at) = is ∙ ap answer_of (over_once ends counts p codes start ran other ended ended') ∙ sym at
 
-  pub answer_once : (x : ℕ) (a b : Answer) → IsAnswerOf p code x a → IsAnswerOf p code x b → a ≡ b
+  pub answer_once : (x : ℕ) (a b : Answer) → IsAnswerOf p codes x a → IsAnswerOf p codes x b → a ≡ b
   answer_once x = to_once (start_over (documents_in k.Field p) x)
 
-module _ (ends : ProgramsEnd) (counted : ListedCodesCount) (p : Prepared) (code : Code) (of : kind_of p.under.job.context ≡ Some k.Field)
-    (is : IsProgramOf p.under.allow (types_of p.under.job.context) (script_of p.under) (Ok p.program)) (listed : IsListed p.under.allow (types_of p.under.job.context) p.program code) where
-  to_some : (bound : Result Start Fault) → ((start : Start) → bound ≡ Ok start → HasArguments k.Field start.args) → (answer : Answer) × IsAnswerTo (EndsOver p code) bound answer
+module _ (ends : ProgramsEnd) (counted : ListedCodesCount) (p : Prepared) (codes : ScriptCodes) (of : kind_of p.under.job.context ≡ Some k.Field)
+    (is : IsProgramOf p.under.allow (types_of p.under.job.context) (script_of p.under) (Ok p.program)) (listed : IsListed p.under.allow (types_of p.under.job.context) p.program empty_program codes) where
+  to_some : (bound : Result Start Fault) → ((start : Start) → bound ≡ Ok start → HasArguments k.Field start.args) → (answer : Answer) × IsAnswerTo (EndsOver p codes) bound answer
   to_some (Err wrong) has = (no_answer, refl)
-  to_some (Ok start) has = let ran = over_some ends counted k.Field p code of is listed start (has start refl) in (answer_of ran.0, (ran.0, ran.1, refl))
+  to_some (Ok start) has = let ran = over_some ends counted k.Field p codes of is listed start (has start refl) in (answer_of ran.0, (ran.0, ran.1, refl))
 
-  pub answer_some : (x : ℕ) → (answer : Answer) × IsAnswerOf p code x answer
+  pub answer_some : (x : ℕ) → (answer : Answer) × IsAnswerOf p codes x answer
   answer_some x = to_some (start_over (documents_in k.Field p) x) (λ start bound. over_takes (documents_in k.Field p) x start bound)

@@ -8,7 +8,7 @@ use Rattle.typed_tree.specs.declared.program.Program.{Program}
 use Rattle.script_engine.specs.typing_rules_declared.header.ContextTypes.{ContextTypes}
 use Rattle.script_engine.specs.declared.compiling.Script.{Script}
 use Rattle.script_engine.specs.Seen.{limits_of}
-use Rattle.script_engine.specs.Codes.{Counts}
+use Rattle.script_engine.specs.Codes.{Counts, script_codes}
 use Rattle.script_engine.specs.Compiling.{Compiles, IsScriptOf}
 use Rattle.script_engine.specs.Programs.{IsProgramOf}
 use Rattle.script_engine.specs.Running.{RunsAsItsProgram, world_at, world_left}
@@ -71,7 +71,7 @@ distinct_so found (Err stop) same distinct = tt
 
 -- a run of the code is that of each program of which the script is
 pub ran_so : (s : LimitedScript) (store : Store) (args : List Value) (o : Outcome) → RunsAsItsProgram s.script store args s.limits o
-    → Counts s.script.executable.code (limits_of s.limits s.script.executable.allow) args (world_at store s.limits) o.steps → EndsAsItsProgram s store args (ended_of o)
+    → Counts (script_codes s.script) (limits_of s.limits s.script.executable.allow) args (world_at store s.limits) o.steps → EndsAsItsProgram s store args (ended_of o)
 ran_so s store args o runs counts = record {
   leaves = λ allow context p is has. let out = runs allow context p is has in (world_left o out.left, out.ends, refl, refl);
   counts = counts;

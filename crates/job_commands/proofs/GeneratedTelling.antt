@@ -47,7 +47,7 @@ module _ (texts : TextsAreAnsweredOnce) (ends : ProgramsEndOnce) (counts : Codes
   fixed_once (Ok p) a b (t, (answers, are, is), at) (u, (others, goes, so), to) =
       at
       ∙ ap (summary_told codes count)
-      (is ∙ ap (tallied nothing_counted) (are_once (IsAnswerOf p codes.script) (answer_once ends counts p codes.script) (numbers_behind count 0) answers others are goes) ∙ sym so) ∙ sym to
+      (is ∙ ap (tallied nothing_counted) (are_once (IsAnswerOf p codes) (answer_once ends counts p codes) (numbers_behind count 0) answers others are goes) ∙ sym so) ∙ sym to
   fixed_once (Err wrong) a b h k = h ∙ sym k
 
   pub gen_once : (a b : Told) → TellsGen codes count a → TellsGen codes count b → a ≡ b
@@ -60,7 +60,7 @@ module _ (texts : TextsAreAnswered) (ends : ProgramsEnd) (counted : ListedCodesC
       → (told : Told) × TellsFixed (prepared fixed_under reading) codes count told
   fixed_some (Ok program) is are =
       let p : Prepared = record { under = fixed_under; program = program } in
-      let r = are_some (IsAnswerOf p codes.script) (answer_some ends counted p codes.script refl is are.script) (numbers_behind count 0) in
+      let r = are_some (IsAnswerOf p codes) (answer_some ends counted p codes refl is are.script) (numbers_behind count 0) in
       let t = tallied nothing_counted r.0 in
       (summary_told codes count t, (t, (r.0, r.1, refl), refl))
   fixed_some (Err wrong) is are = (refusal (refusal_of wrong), refl)
@@ -80,7 +80,7 @@ module _ (texts : TextsAreAnsweredOnce) where
       → IsScriptOf (read_view job.found).allow (types_of job.found.job.context) p job.script → shape_fault job.found.allow job.script.executable.code ≡ None → AreFixedCodes (codes_of job.script)
   fixed_codes listed prelude job p is script sound = λ answer goes.
       subst (λ (r : Result Prepared Told). AreCodesBy r (codes_of job.script)) (prepares_once texts fixed_under (Ok (with_program job p)) answer is goes)
-      (record { script = listed (read_view job.found).allow (types_of job.found.job.context) p job.script script sound; prelude = prelude })
+      (record { script = listed (read_view job.found).allow (types_of job.found.job.context) p job.script script sound; prelude = prelude (read_view job.found).allow p job.script.executable.code })
 
   -- any, where it were refused
   refused_codes : (told : Told) → Prepares fixed_under (Err told) → (codes : ScriptCodes) → AreFixedCodes codes
@@ -113,7 +113,7 @@ module _ (texts : TextsAreAnsweredOnce) (ends : ProgramsEndOnce) (counts : Codes
         let tells : TellsGen codes count told = (
           Ok (with_program job p),
           is,
-          (h.tally, tally_map (GivesAnswers job) (IsAnswerOf (with_program job p) codes.script) (answers_mean job p script of) count h.tally h.is, refl),
+          (h.tally, tally_map (GivesAnswers job) (IsAnswerOf (with_program job p) codes) (answers_mean job p script of) count h.tally h.is, refl),
         ) in
         delivers_same (λ other. other ≡ told) (Reported codes)
         (λ other same. (subst (TellsGen codes count) (sym same) tells, subst (λ (t : Told). Reports t r) (sym same) h.reports)) (λ other k. gen_once texts ends counts codes count other told k.0 tells)

@@ -8,3 +8,4 @@ pub mod Tallying
 pub mod Answering
 pub mod FixedJobs
 pub mod GeneratedTelling
+pub mod Starting

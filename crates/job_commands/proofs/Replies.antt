@@ -7,12 +7,11 @@ use Rattle.object_heap.specs.declared.outcome.Which.{Which}
 use Rattle.object_heap.specs.declared.outcome.Which.TheVariants as which
 use Rattle.script_engine.specs.World.{World}
 use Rattle.job_loading.specs.Allow.{AllowList}
-use Rattle.script_engine.specs.pl_code_declared.code.Code.{Code}
 use Rattle.script_engine.specs.machine_declared.configuration.Limits.{Limits}
 use Rattle.script_engine.specs.Seen.{limit_of, limits_of}
 use Rattle.outer_io.specs.Lines.{InputLine, Within, Beyond, Nothing}
 use Rattle.typed_tree.specs.declared.program.Program.{Program}
-use Rattle.script_engine.specs.Codes.{Counts, IsListed}
+use Rattle.script_engine.specs.Codes.{Counts, IsListed, ScriptCodes, empty_program, script_codes}
 use Rattle.script_engine.specs.Compiling.{IsScriptOf}
 use Rattle.script_engine.specs.Laws.{ProgramsEnd, ProgramsEndOnce, CodesCountOnce, ListedCodesCount}
 use Rattle.script_engine.specs.Programs.{IsProgramOf}
@@ -101,14 +100,14 @@ reached_back (o.Limit limit) w = refl
 
 -- a run of the code leaves what the program's leaves
 pub ends_over : (job : PreparedJob) (p : Program) (kind : SearchKind) → IsScriptOf (read_view job.found).allow (types_of job.found.job.context) p job.script → kind_of job.found.job.context ≡ Some kind
-    → (start : Start) (ran : Ended) → HasArguments kind start.args → by_start (EndsAsItsProgram (limited job)) start ran → EndsOver (with_program job p) job.script.executable.code start ran
+    → (start : Start) (ran : Ended) → HasArguments kind start.args → by_start (EndsAsItsProgram (limited job)) start ran → EndsOver (with_program job p) (script_codes job.script) start ran
 ends_over job p kind is of start ran has ends =
     let out = ends.leaves (read_view job.found).allow (types_of job.found.job.context) p is (has_all job.found.job.context kind start.args of has) in
     record {
       ended = end_seen ran.end out.0;
       runs = out.1;
       counts =
-          subst (λ (a : AllowList). Counts job.script.executable.code (limits_of (limited job).limits a) start.args (world_in (with_program job p) start.store) ran.steps) is.allowed
+          subst (λ (a : AllowList). Counts (script_codes job.script) (limits_of (limited job).limits a) start.args (world_in (with_program job p) start.store) ran.steps) is.allowed
           ends.counts;
       end = end_back ran.end out.0;
       objects = out.2 ∙ objects_back ran.end out.0;
@@ -128,9 +127,9 @@ reply_unless true documents Code Means line reply to is = is
 reply_unless false documents Code Means line reply to is = reply_to documents Code Means (start_of documents line) reply to is
 
 pub gives_reply : (job : PreparedJob) (p : Program) (kind : SearchKind) → IsScriptOf (read_view job.found).allow (types_of job.found.job.context) p job.script → kind_of job.found.job.context ≡ Some kind
-    → (line : InputLine) (reply : Reply) → GivesReplies kind job line reply → IsReplyOf kind (with_program job p) job.script.executable.code line reply
+    → (line : InputLine) (reply : Reply) → GivesReplies kind job line reply → IsReplyOf kind (with_program job p) (script_codes job.script) line reply
 gives_reply job p kind is of (Within line) reply gives =
-    reply_unless (is_blank line) (documents_for kind job) (by_start (EndsAsItsProgram (limited job))) (EndsOver (with_program job p) job.script.executable.code) line reply
+    reply_unless (is_blank line) (documents_for kind job) (by_start (EndsAsItsProgram (limited job))) (EndsOver (with_program job p) (script_codes job.script)) line reply
     (λ start bound ran ends. ends_over job p kind is of start ran (documents_take (documents_for kind job) line start bound) ends) gives
 gives_reply job p kind is of Beyond reply gives = gives
 gives_reply job p kind is of Nothing reply gives = gives
@@ -144,23 +143,23 @@ same_ended a b end objects reached steps =
     ∙ ap (λ (l : List ℕ). record { end = b.end; objects = b.objects; reached = l; steps = a.steps }) reached
     ∙ ap (λ (n : ℕ). record { end = b.end; objects = b.objects; reached = b.reached; steps = n }) steps
 
-module _ (ends : ProgramsEndOnce) (counts : CodesCountOnce) (p : Prepared) (code : Code) where
-  pub over_once : (start : Start) (a b : Ended) → EndsOver p code start a → EndsOver p code start b → a ≡ b
+module _ (ends : ProgramsEndOnce) (counts : CodesCountOnce) (p : Prepared) (codes : ScriptCodes) where
+  pub over_once : (start : Start) (a b : Ended) → EndsOver p codes start a → EndsOver p codes start b → a ≡ b
   over_once start a b h k =
-      let same : h.ended ≡ k.ended = ends p.program (limits_in p) start.args (world_in p start.store) h.ended k.ended h.runs k.runs in
+      let same : h.ended ≡ k.ended = ends p.program empty_program (limits_in p) start.args (world_in p start.store) h.ended k.ended h.runs k.runs in
       same_ended a b (h.end ∙ ap end_of same ∙ sym k.end) (h.objects ∙ ap objects_of same ∙ sym k.objects) (h.reached ∙ ap reached_of same ∙ sym k.reached)
-      (counts code (limits_in p) start.args (world_in p start.store) a.steps b.steps h.counts k.counts)
+      (counts codes (limits_in p) start.args (world_in p start.store) a.steps b.steps h.counts k.counts)
 
-  to_once : (documents : Documents) (bound : Result Start Fault) (a b : Reply) → IsReplyTo documents (EndsOver p code) bound a → IsReplyTo documents (EndsOver p code) bound b → a ≡ b
+  to_once : (documents : Documents) (bound : Result Start Fault) (a b : Reply) → IsReplyTo documents (EndsOver p codes) bound a → IsReplyTo documents (EndsOver p codes) bound b → a ≡ b
   to_once documents (Err wrong) a b h k = h ∙ sym k
   to_once documents (Ok start) a b (ran, ended, is) (other, ended', at) = is ∙ ap (reply_to_run documents) (over_once start ran other ended ended') ∙ sym at
 
-  unless_once : (blank : Bool) (documents : Documents) (line : List ℕ) (a b : Reply) → IsReplyUnless blank documents (EndsOver p code) line a
-      → IsReplyUnless blank documents (EndsOver p code) line b → a ≡ b
+  unless_once : (blank : Bool) (documents : Documents) (line : List ℕ) (a b : Reply) → IsReplyUnless blank documents (EndsOver p codes) line a
+      → IsReplyUnless blank documents (EndsOver p codes) line b → a ≡ b
   unless_once true documents line a b h k = h ∙ sym k
   unless_once false documents line a b h k = to_once documents (start_of documents line) a b h k
 
-  pub reply_once : (kind : SearchKind) (line : InputLine) (a b : Reply) → IsReplyOf kind p code line a → IsReplyOf kind p code line b → a ≡ b
+  pub reply_once : (kind : SearchKind) (line : InputLine) (a b : Reply) → IsReplyOf kind p codes line a → IsReplyOf kind p codes line b → a ≡ b
   reply_once kind (Within line) a b h k = unless_once (is_blank line) (documents_in kind p) line a b h k
   reply_once kind Beyond a b h k = h ∙ sym k
   reply_once kind Nothing a b h k = h ∙ sym k
@@ -171,28 +170,28 @@ module _ (ends : ProgramsEndOnce) (counts : CodesCountOnce) (p : Prepared) (code
 abbrev machine_limits : Prepared → Limits
 machine_limits p = record { loops = p.under.job.limits.loops; depth = p.under.job.limits.depth; ticks = p.under.job.limits.ticks }
 
-module _ (ends : ProgramsEnd) (counted : ListedCodesCount) (kind : SearchKind) (p : Prepared) (code : Code) (of : kind_of p.under.job.context ≡ Some kind)
-    (is : IsProgramOf p.under.allow (types_of p.under.job.context) (script_of p.under) (Ok p.program)) (listed : IsListed p.under.allow (types_of p.under.job.context) p.program code) where
-  pub over_some : (start : Start) → HasArguments kind start.args → (ran : Ended) × EndsOver p code start ran
+module _ (ends : ProgramsEnd) (counted : ListedCodesCount) (kind : SearchKind) (p : Prepared) (codes : ScriptCodes) (of : kind_of p.under.job.context ≡ Some kind)
+    (is : IsProgramOf p.under.allow (types_of p.under.job.context) (script_of p.under) (Ok p.program)) (listed : IsListed p.under.allow (types_of p.under.job.context) p.program empty_program codes) where
+  pub over_some : (start : Start) → HasArguments kind start.args → (ran : Ended) × EndsOver p codes start ran
   over_some start has =
       let all = has_all p.under.job.context kind start.args of has in
       let end =
       ends p.under.allow (types_of p.under.job.context) (script_of p.under) p.program (kind_context (kind_of p.under.job.context)) is (limits_in p) refl start.args all
       (world_in p start.store) in
-      let count = counted p.under.allow (types_of p.under.job.context) p.program code listed (machine_limits p) start.store start.args all in (
+      let count = counted p.under.allow (types_of p.under.job.context) p.program empty_program codes listed (machine_limits p) start.store start.args all in (
         record { end = end_of end.0; objects = objects_of end.0; reached = reached_of end.0; steps = count.0 },
         record { ended = end.0; runs = end.1; counts = count.1; end = refl; objects = refl; reached = refl },
       )
 
-  to_some : (documents : Documents) (bound : Result Start Fault) → ((start : Start) → bound ≡ Ok start → HasArguments kind start.args) → (reply : Reply) × IsReplyTo documents (EndsOver p code) bound reply
+  to_some : (documents : Documents) (bound : Result Start Fault) → ((start : Start) → bound ≡ Ok start → HasArguments kind start.args) → (reply : Reply) × IsReplyTo documents (EndsOver p codes) bound reply
   to_some documents (Err wrong) has = (as_line (line_error (fault_of wrong)), refl)
   to_some documents (Ok start) has = let ran = over_some start (has start refl) in (reply_to_run documents ran.0, (ran.0, ran.1, refl))
 
-  unless_some : (blank : Bool) (line : List ℕ) → (reply : Reply) × IsReplyUnless blank (documents_in kind p) (EndsOver p code) line reply
+  unless_some : (blank : Bool) (line : List ℕ) → (reply : Reply) × IsReplyUnless blank (documents_in kind p) (EndsOver p codes) line reply
   unless_some true line = (no_reply, refl)
   unless_some false line = to_some (documents_in kind p) (start_of (documents_in kind p) line) (λ start bound. documents_take (documents_in kind p) line start bound)
 
-  pub reply_some : (line : InputLine) → (reply : Reply) × IsReplyOf kind p code line reply
+  pub reply_some : (line : InputLine) → (reply : Reply) × IsReplyOf kind p codes line reply
   reply_some (Within line) = unless_some (is_blank line) line
   reply_some Beyond = (as_line (line_error fault.Long), refl)
   reply_some Nothing = (no_reply, refl)

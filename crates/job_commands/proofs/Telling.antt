@@ -84,7 +84,7 @@ program_by under p (Ok q) is at =
     subst (λ (r : Prepared). IsProgramOf r.under.allow (types_of r.under.job.context) (script_of r.under) (Ok r.program)) (sym same) is
 program_by under p (Err wrong) is at = absurd cc
 
-program_read : (read : Result JobUnder Told) (p : Prepared) → PreparesRead read (Ok p) → IsProgramOf p.under.allow (types_of p.under.job.context) (script_of p.under) (Ok p.program)
+pub program_read : (read : Result JobUnder Told) (p : Prepared) → PreparesRead read (Ok p) → IsProgramOf p.under.allow (types_of p.under.job.context) (script_of p.under) (Ok p.program)
 program_read (Ok under) p (reading, is, at) = program_by under p reading is at
 program_read (Err told) p h = absurd cc
 
@@ -101,7 +101,7 @@ module _ (texts : TextsAreAnsweredOnce) (with : JobCommand) (content : List ℕ 
       → AreCodesIn with content name (codes_of job.script)
   prepared_codes listed prelude job p is script sound = λ answer goes.
       subst (λ (r : Result Prepared Told). AreCodesBy r (codes_of job.script)) (job_once texts with content name (Ok (with_program job p)) answer is goes)
-      (record { script = listed (read_view job.found).allow (types_of job.found.job.context) p job.script script sound; prelude = prelude })
+      (record { script = listed (read_view job.found).allow (types_of job.found.job.context) p job.script script sound; prelude = prelude (read_view job.found).allow p job.script.executable.code })
 
   -- any, where it is refused
   refused_codes : (told : Told) → PreparesJob with content name (Err told) → (codes : ScriptCodes) → AreCodesIn with content name codes
@@ -126,7 +126,7 @@ module _ (ends : ProgramsEndOnce) (counts : CodesCountOnce) where
       let limit = p.under.job.limits.input in
       is
       ∙ ap (λ (l : List Reply). input_told (front_of p codes) limit input l)
-      (are_once (IsReplyOf kind p codes.script) (reply_once ends counts p codes.script kind) (lines_told limit input) r q are goes) ∙ sym at
+      (are_once (IsReplyOf kind p codes) (reply_once ends counts p codes kind) (lines_told limit input) r q are goes) ∙ sym at
 
   prepared_once : (answer : Result Prepared Told) (codes : ScriptCodes) (input : List ℕ) (a b : Told) → TellsPrepared answer codes input a → TellsPrepared answer codes input b → a ≡ b
   prepared_once (Ok p) codes input a b h k = over_once (kind_of p.under.job.context) p codes input a b h k
@@ -143,7 +143,7 @@ module _ (ends : ProgramsEnd) (counted : ListedCodesCount) (codes : ScriptCodes)
   over_some None p of is are input = (no_documents, refl)
   over_some (Some kind) p of is are input =
       let limit = p.under.job.limits.input in
-      let r = are_some (IsReplyOf kind p codes.script) (reply_some ends counted kind p codes.script of is are.script) (lines_told limit input) in
+      let r = are_some (IsReplyOf kind p codes) (reply_some ends counted kind p codes of is are.script) (lines_told limit input) in
       (input_told (front_of p codes) limit input r.0, (r.0, r.1, refl))
 
   prepared_some : (read : Result JobUnder Told) (answer : Result Prepared Told) → PreparesRead read answer → AreCodesBy answer codes → (input : List ℕ)
@@ -199,7 +199,7 @@ module _ (texts : TextsAreAnsweredOnce) (ends : ProgramsEndOnce) (counts : Codes
     Gives = GivesReplies kind job
 
     abbrev Means : InputLine → Reply → Type 0
-    Means = IsReplyOf kind (with_program job p) job.script.executable.code
+    Means = IsReplyOf kind (with_program job p) codes
 
     all_mean : (lines : List InputLine) (replies : List Reply) → AreReplies Gives lines replies → AreReplies Means lines replies
     all_mean = are_map Gives Means (gives_reply job p kind script of)
@@ -228,7 +228,7 @@ module _ (texts : TextsAreAnsweredOnce) (ends : ProgramsEndOnce) (counts : Codes
         let over = subst (λ (k : Option SearchKind). TellsOver k (with_program job p) codes passes.input told) of here in
         let lines = subst (λ (l : List InputLine). AreReplies Means l over.0) (sym passes.parts) over.1 in
         let first = all_mean passes.lines passes.replies passes.are in
-        let more = are_front Means (reply_once ends counts (with_program job p) job.script.executable.code kind) passes.lines passes.behind passes.replies over.0 first lines in
+        let more = are_front Means (reply_once ends counts (with_program job p) codes kind) passes.lines passes.behind passes.replies over.0 first lines in
         let bytes : told.bytes ≡ bytes_behind (front_for job) over.0 = ap (λ (t : Told). t.bytes) over.2 ∙ input_bytes (front_for job) limit passes.input over.0 in
         subst (AppendsFront old new) (sym bytes)
         (subst (λ (l : List Reply). AppendsFront old new (bytes_behind (front_for job) l)) (sym more.1) (front_told old new (front_for job) passes.replies more.0 passes.appended))

@@ -1,6 +1,6 @@
 -- What a run over a document comes to: a whole number, or none, and how many instructions were run.
 use Rattle.std.specs.Prelude.{◌≡◌, ℕ, ℤ, List, [], ◌∷◌, Option, Some, None, Result, Ok, Err}
-use Rattle.script_engine.specs.pl_code_declared.code.Code.{Code}
+use Rattle.script_engine.specs.Codes.{ScriptCodes}
 use Rattle.object_values.specs.declared.value.Value.{Value}
 use Rattle.object_values.specs.declared.value.Value.TheVariants as v
 use Rattle.object_heap.specs.declared.outcome.End.{End}
@@ -51,6 +51,6 @@ AreAnswers Is (x ∷ xs) (answer ∷ answers) = Is x answer × AreAnswers Is xs 
 AreAnswers Is [] (answer ∷ answers) = ⊥
 AreAnswers Is (x ∷ xs) [] = ⊥
 
--- the answer of the job's program and of its code
-abbrev pub IsAnswerOf : Prepared → Code → ℕ → Answer → Type 0
-IsAnswerOf p code = IsAnswer (documents_in k.Field p) (EndsOver p code)
+-- the answer of the job's program and of its codes
+abbrev pub IsAnswerOf : Prepared → ScriptCodes → ℕ → Answer → Type 0
+IsAnswerOf p codes = IsAnswer (documents_in k.Field p) (EndsOver p codes)

@@ -27,7 +27,7 @@ IsTally Is count t = (answers : List Answer) × AreAnswers Is (numbers_behind co
 
 -- the fixed job's script is accepted, or it would be told why not
 abbrev pub TellsFixed : Result Prepared Told → ScriptCodes → ℕ → Told → Type 0
-TellsFixed (Ok p) codes count told = (t : Tally) × IsTally (IsAnswerOf p codes.script) count t × (told ≡ summary_told codes count t)
+TellsFixed (Ok p) codes count told = (t : Tally) × IsTally (IsAnswerOf p codes) count t × (told ≡ summary_told codes count t)
 TellsFixed (Err wrong) codes count told = told ≡ wrong
 
 -- what is told of so many documents and of the codes of the fixed job's script

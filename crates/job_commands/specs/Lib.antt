@@ -9,7 +9,9 @@ pub mod Generator
 pub mod FixedJob
 pub mod Answers
 pub mod Summaries
+pub mod Starts
 pub mod Generated
 pub mod GeneratedEnds
 -- Definitions of the libraries below that clauses here speak of, passed on.
 pub use Rattle.script_engine.specs.Codes
+pub use Rattle.job_loading.specs.Asked

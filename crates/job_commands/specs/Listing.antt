@@ -1,7 +1,7 @@
 -- Which codes a job may have, and what `list` is to write.
 use Rattle.std.specs.Prelude.{◌≡◌, ℕ, List, [], ◌∷◌, Bool, Option, Result, Ok, Err, if◌then◌else◌}
 use Rattle.script_engine.specs.Listing.{written}
-use Rattle.script_engine.specs.Codes.{IsListed, IsPreludeListed, ScriptCodes}
+use Rattle.script_engine.specs.Codes.{IsListed, IsPreludeListed, ScriptCodes, empty_program}
 use Rattle.job_file.specs.declared.context.JobCommand.{JobCommand}
 use Rattle.job_file.specs.declared.context.JobCommand.TheVariants as command
 use Rattle.command_parts.specs.declared.status.Status.TheVariants as s
@@ -15,8 +15,8 @@ listings_of codes = written codes.script ∷ written codes.prelude ∷ []
 
 -- codes of the script of a job that is prepared; one that is refused has none
 pub record AreCodesOf (p : Prepared) (codes : ScriptCodes) : Type 0 where
-  pub script : IsListed p.under.allow (types_of p.under.job.context) p.program codes.script
-  pub prelude : IsPreludeListed codes.prelude
+  pub script : IsListed p.under.allow (types_of p.under.job.context) p.program empty_program codes
+  pub prelude : IsPreludeListed p.under.allow p.program empty_program codes
 
 abbrev pub AreCodesBy : Result Prepared Told → ScriptCodes → Type 0
 AreCodesBy (Ok p) codes = AreCodesOf p codes

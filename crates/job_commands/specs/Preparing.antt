@@ -12,7 +12,7 @@ use Rattle.script_engine.specs.Agreeing.{types_in}
 use Rattle.script_engine.specs.Seen.{limits_of}
 use Rattle.script_engine.specs.Rows.{HaveRows}
 use Rattle.script_engine.specs.declared.compiling.Script.{Script}
-use Rattle.script_engine.specs.Codes.{Counts, ScriptCodes, prelude_code}
+use Rattle.script_engine.specs.Codes.{Counts, ScriptCodes, empty_program, script_codes}
 use Rattle.script_engine.specs.Compiling.{IsScriptOf}
 use Rattle.script_engine.specs.Ends.{RunsTo}
 use Rattle.script_engine.specs.Programs.{IsProgramOf}
@@ -50,15 +50,15 @@ TakesThem s args = HaveRows s.script.executable.allow s.script.executable.code.f
 
 -- the code of a script, and that of the prelude
 abbrev pub codes_of : Script → ScriptCodes
-codes_of script = record { script = script.executable.code; prelude = prelude_code }
+codes_of script = script_codes script
 
 -- what a run leaves is what that of each program leaves of which the script is
 abbrev pub LeavesAsItsProgram : LimitedScript → Store → List Value → Ended → Type 0
 LeavesAsItsProgram s store args ran =
     (allow : AllowList) (context : ContextTypes) (p : Program) → IsScriptOf allow context p s.script → HaveAll (types_in (map variable_of context.variables)) args
-    → (w : World) × RunsTo p (limits_of s.limits allow) args (world_at store s.limits) (end_seen ran.end w) × (ran.objects ≡ w.store.objects) × (ran.reached ≡ w.reached)
+    → (w : World) × RunsTo p empty_program (limits_of s.limits allow) args (world_at store s.limits) (end_seen ran.end w) × (ran.objects ≡ w.store.objects) × (ran.reached ≡ w.reached)
 
--- .. and as many instructions of the script's code are counted
+-- .. and as many instructions of the script's code are counted, beside the prelude's
 pub record EndsAsItsProgram (s : LimitedScript) (store : Store) (args : List Value) (ran : Ended) : Type 0 where
   pub leaves : LeavesAsItsProgram s store args ran
-  pub counts : Counts s.script.executable.code (limits_of s.limits s.script.executable.allow) args (world_at store s.limits) ran.steps
+  pub counts : Counts (codes_of s.script) (limits_of s.limits s.script.executable.allow) args (world_at store s.limits) ran.steps

@@ -1,7 +1,6 @@
 -- What `run` is to write over an input, and how it is to end: a job that is read, and then a reply for each line of the input, which
 -- depends on the job and the line alone.
 use Rattle.std.specs.Prelude.{◌≡◌, ℕ, ◌+◌, ◌++◌, ◌||◌, Bool, List, [], Option, Some, None, Result, Ok, Err, codes, length, if◌then◌else◌}
-use Rattle.pl_types.specs.Host.{no_host}
 use Rattle.object_values.specs.declared.object.Object.{Object}
 use Rattle.object_heap.specs.Store.{Store}
 use Rattle.object_values.specs.declared.value.Value.{Value}
@@ -9,11 +8,10 @@ use Rattle.object_heap.specs.declared.outcome.End.{End}
 use Rattle.object_heap.specs.declared.outcome.End.TheVariants as e
 use Rattle.object_heap.specs.declared.outcome.Which.{Which}
 use Rattle.object_heap.specs.declared.outcome.Which.TheVariants as which
-use Rattle.script_engine.specs.World.{World, Limits, Limit, Loop, Depth, Ticks, Room, End as Ended, Result as Gives, Uncaught, Limited}
+use Rattle.script_engine.specs.World.{World, Limits, limits_for, Limit, Loop, Depth, Ticks, Room, End as Ended, Result as Gives, Uncaught, Limited}
 use Rattle.outer_io.specs.Lines.{InputLine}
 use Rattle.script_engine.specs.Listing.{written}
-use Rattle.script_engine.specs.pl_code_declared.code.Code.{Code}
-use Rattle.script_engine.specs.Codes.{Counts, ScriptCodes}
+use Rattle.script_engine.specs.Codes.{Counts, ScriptCodes, empty_program}
 use Rattle.script_engine.specs.Ends.{RunsTo}
 use Rattle.job_file.specs.declared.context.JobCommand.TheVariants as command
 use Rattle.job_file.specs.Jobs.{JobData, field}
@@ -33,13 +31,7 @@ use Rattle.job_commands.specs.Scripts.{Prepared, PreparesJob}
 -- ---- runs of the job's script
 
 abbrev pub limits_in : Prepared → Limits
-limits_in p = record {
-  loop = p.under.job.limits.loops;
-  depth = p.under.job.limits.depth;
-  allowed = p.under.allow;
-  prelude_allowed = record { classes = []; members = [] };
-  host = no_host;
-}
+limits_in p = limits_for p.under.job.limits.loops p.under.job.limits.depth p.under.allow
 
 -- each run begins with all its ticks, and no member was reached
 abbrev pub world_in : Prepared → Store → World
@@ -69,11 +61,12 @@ reached_of (Gives value w) = w.reached
 reached_of (Uncaught id w) = w.reached
 reached_of (Limited limit w) = w.reached
 
--- What a run of the script leaves: that of the program's meaning, behind so many instructions of the code.
-pub record EndsOver (p : Prepared) (code : Code) (start : Start) (ran : Ran) : Type 0 where
+-- What a run of the script leaves: that of the program's meaning beside the prelude's, which is the empty one, behind so many instructions
+-- of the two codes.
+pub record EndsOver (p : Prepared) (codes : ScriptCodes) (start : Start) (ran : Ran) : Type 0 where
   pub ended : Ended Value
-  pub runs : RunsTo p.program (limits_in p) start.args (world_in p start.store) ended
-  pub counts : Counts code (limits_in p) start.args (world_in p start.store) ran.steps
+  pub runs : RunsTo p.program empty_program (limits_in p) start.args (world_in p start.store) ended
+  pub counts : Counts codes (limits_in p) start.args (world_in p start.store) ran.steps
   pub end : ran.end ≡ end_of ended
   pub objects : ran.objects ≡ objects_of ended
   pub reached : ran.reached ≡ reached_of ended
@@ -90,8 +83,8 @@ documents_in kind p = record {
 }
 
 -- the reply to a line
-abbrev pub IsReplyOf : SearchKind → Prepared → Code → InputLine → Reply → Type 0
-IsReplyOf kind p code = IsReply (documents_in kind p) (EndsOver p code)
+abbrev pub IsReplyOf : SearchKind → Prepared → ScriptCodes → InputLine → Reply → Type 0
+IsReplyOf kind p codes = IsReply (documents_in kind p) (EndsOver p codes)
 
 -- what stands before the replies: the listing of the script, where a job asks for it or for steps, and with steps that of the prelude
 abbrev pub front_with : Bool → Bool → List ℕ → List ℕ → List ℕ
@@ -112,7 +105,7 @@ abbrev pub no_documents : Told
 no_documents = refusal (job_refusal (field (codes "context")))
 
 abbrev pub TellsOver : Option SearchKind → Prepared → ScriptCodes → List ℕ → Told → Type 0
-TellsOver (Some kind) p codes input told = TellsInput (IsReplyOf kind p codes.script) (front_of p codes) p.under.job.limits.input input told
+TellsOver (Some kind) p codes input told = TellsInput (IsReplyOf kind p codes) (front_of p codes) p.under.job.limits.input input told
 TellsOver None p codes input told = told ≡ no_documents
 
 abbrev pub TellsPrepared : Result Prepared Told → ScriptCodes → List ℕ → Told → Type 0
@@ -127,7 +120,7 @@ TellsRun content codes name input told = (answer : Result Prepared Told) × Prep
 abbrev pub TellsRunTaken : (List ℕ → Option (List ℕ)) → ScriptCodes → List ℕ → List ℕ → Told → Type 0
 TellsRunTaken content codes name taken told =
     (p : Prepared) × PreparesJob command.Run content name (Ok p) × (kind : SearchKind) × (kind_of p.under.job.context ≡ Some kind)
-    × TellsTaken (IsReplyOf kind p codes.script) (front_of p codes) p.under.job.limits.input taken told
+    × TellsTaken (IsReplyOf kind p codes) (front_of p codes) p.under.job.limits.input taken told
 
 -- as many bytes were taken of the input as the job allows, and one more
 abbrev pub RunsPast : (List ℕ → Option (List ℕ)) → List ℕ → List ℕ → Type 0

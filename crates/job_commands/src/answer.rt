@@ -11,7 +11,7 @@ use crate::generator::document_of;
 use crate::script::LimitedScript;
 use document_replies::{DocumentJob, DocumentScript};
 use object_heap::{End, Outcome};
-use object_values::Value;
+use object_values::{Seed, Value};
 use script_engine::RunMemory;
 use search_ctx::{BindErr, Bound, bind_document};
 use std::alloc::AllocError;
@@ -76,6 +76,11 @@ fn answer_to_bound(
     Ok(answer_of(&outcome))
 }
 
+/// From what the heap of the run over the document of a number is made, which changes no answer.
+fn seed_at(seed: Seed, number: u32) -> Seed {
+    seed.with(&number.to_le_bytes())
+}
+
 /// What the run of a job over the document of a number comes to.
 pub(crate) fn answer_to(
     job: &DocumentJob<LimitedScript>,
@@ -94,6 +99,7 @@ pub(crate) fn answer_to(
         &settings.params,
         &document,
         settings.room,
+        seed_at(settings.seed, number),
     ) {
         Ok(bound) => answer_to_bound(&job.script, bound, memory),
         Err(BindErr::Syntax | BindErr::Number | BindErr::Field) => Ok(Answer {

@@ -2,9 +2,12 @@
 
 ghost use Rattle.std.specs.Prelude.{◌≡◌, ◌≢◌, ◌⊎◌, ℕ, List, Option, IfSome};
 ghost use Rattle.outer_io.specs.Faults.{next_count};
+ghost use Rattle.job_file.specs.declared.context.JobCommand.TheVariants as command;
+ghost use Rattle.command_parts.specs.Asking.{AsksBy};
 ghost use Rattle.command_parts.specs.Delivers.{Delivers};
 ghost use Rattle.command_parts.specs.Reports.{IsQuiet, Reports};
 ghost use Rattle.command_parts.specs.Writing.{IsWriteFault};
+ghost use Rattle.job_loading.specs.Asked.{job_asked};
 ghost use Rattle.job_commands.specs.Checking.{TellsCheck, accepts_told};
 
 use crate::preparing::prepare;
@@ -41,6 +44,8 @@ pub fn check<F: Files, K: Sink>(alloc: Global, name: &str, files: &mut F, out: &
     ensures written { result.status ≢ Status.WriteFault → K.faults out.new ≡ K.faults out.old }
     ensures filed { result.status ≢ Status.FileFault → F.faults files.new ≡ F.faults files.old }
     ensures contents { F.content files.new ≡ F.content files.old }
+    // The job's file is asked for, and then its allowlist, and no other one.
+    ensures asked { AsksBy (F.content files.old) (F.asked files.old) (F.asked files.new) (job_asked command.Check name.now) }
 {
     script_laws();
     match prepare(alloc, JobCommand::Check, name, files) {

@@ -31,6 +31,7 @@ pub(crate) fn document_job(
             fields: Fields::new(alloc, &found.job.mapping)?,
             params: found.job.params.clone()?,
             room: limits.room,
+            seed: found.seed,
             keys: ShownKeys {
                 members: found.job.members,
                 steps: found.job.steps,

@@ -17,6 +17,7 @@ use crate::preparing::{PreparedJob, prepare_found};
 use command_parts::Stop;
 use job_file::{FieldKind, Job, JobContext, JobLimits, Mapping};
 use job_loading::{Catalogue, ReadJob};
+use object_values::Seed;
 use serde_json::{Map, Value as Json};
 use std::alloc::{AllocError, Global};
 
@@ -61,6 +62,11 @@ fn fixed_job(alloc: Global) -> Result<Job, AllocError>
     })
 }
 
+/// From what the heaps of its runs are made, beside their documents.
+fn fixed_seed() -> Seed {
+    Seed::of(SCRIPT.as_bytes())
+}
+
 /// The job under the full catalogue.
 fn fixed_under(alloc: Global) -> Result<ReadJob, AllocError>
     ensures { IfOk result (λ found. read_view found ≡ fixed_under) }
@@ -68,6 +74,7 @@ fn fixed_under(alloc: Global) -> Result<ReadJob, AllocError>
     Ok(ReadJob {
         job: fixed_job(alloc)?,
         allow: Catalogue::full(alloc)?,
+        seed: fixed_seed(),
     })
 }
 

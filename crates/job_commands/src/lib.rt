@@ -14,9 +14,11 @@ mod list_command;
 mod preparing;
 mod run_command;
 mod script;
+mod starts;
 mod tally;
 
 pub use check_command::check;
 pub use gen_command::gen_;
 pub use list_command::list;
 pub use run_command::run;
+pub use starts::lines_start_well;

@@ -5,10 +5,12 @@ ghost use Rattle.outer_io.specs.Faults.{next_count};
 ghost use Rattle.script_engine.specs.Listing.{written};
 ghost use Rattle.script_engine.specs.Codes.{ScriptCodes};
 ghost use Rattle.job_file.specs.declared.context.JobCommand.TheVariants as command;
+ghost use Rattle.command_parts.specs.Asking.{AsksBy};
 ghost use Rattle.command_parts.specs.Before.{EndsBefore};
 ghost use Rattle.command_parts.specs.Delivers.{Delivers};
 ghost use Rattle.command_parts.specs.Reports.{IsQuiet, Reports};
 ghost use Rattle.command_parts.specs.Writing.{IsWriteFault};
+ghost use Rattle.job_loading.specs.Asked.{job_asked};
 ghost use Rattle.job_commands.specs.Listing.{AreCodesIn, TellsList, listing_told};
 ghost use Rattle.job_commands.specs.Preparing.{codes_of};
 
@@ -62,6 +64,8 @@ pub fn list<F: Files, K: Sink>(alloc: Global, name: &str, files: &mut F, out: &m
     ensures written { result.status ≢ Status.WriteFault → K.faults out.new ≡ K.faults out.old }
     ensures filed { result.status ≢ Status.FileFault → F.faults files.new ≡ F.faults files.old }
     ensures contents { F.content files.new ≡ F.content files.old }
+    // The job's file is asked for, and then its allowlist, and no other one.
+    ensures asked { AsksBy (F.content files.old) (F.asked files.old) (F.asked files.new) (job_asked command.List name.now) }
 {
     script_laws();
     code_laws();

@@ -8,7 +8,9 @@ ghost use Rattle.script_engine.specs.Running.{TakesTyped};
 ghost use Rattle.job_file.specs.Answers.{fields_view, scripts_view};
 ghost use Rattle.job_loading.specs.Replies.{refusal_of};
 ghost use Rattle.search_ctx.specs.Fields.{HasDistinctNames};
+ghost use Rattle.command_parts.specs.Asking.{AsksBy};
 ghost use Rattle.command_parts.specs.Stops.{stop_told};
+ghost use Rattle.job_loading.specs.Asked.{job_asked};
 ghost use Rattle.job_loading.specs.Loading.{refusal};
 ghost use Rattle.job_loading.specs.Seen.{read_view};
 ghost use Rattle.job_commands.specs.Contexts.{types_of};
@@ -116,6 +118,7 @@ pub(crate) fn prepare<F: Files>(
     ensures distinct { IfOk result (λ job. HasDistinctNames (fields_view job.found.job.mapping.fields.items)) }
     ensures kept { F.content files.new ≡ F.content files.old }
     ensures cause { HasCause Stop.FileFault (F.faults files.old) (F.faults files.new) result }
+    ensures asked { AsksBy (F.content files.old) (F.asked files.old) (F.asked files.new) (job_asked command name.now) }
 {
     let found = read_job(alloc, command, name, files)?;
     prepare_found(alloc, found)

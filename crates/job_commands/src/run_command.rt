@@ -9,10 +9,12 @@ ghost use Rattle.script_engine.specs.Codes.{ScriptCodes};
 ghost use Rattle.job_file.specs.Answers.{fields_view};
 ghost use Rattle.job_file.specs.declared.context.JobCommand.TheVariants as command;
 ghost use Rattle.search_ctx.specs.Fields.{HasDistinctNames};
+ghost use Rattle.command_parts.specs.Asking.{AsksBy};
 ghost use Rattle.command_parts.specs.Before.{EndsBefore};
 ghost use Rattle.command_parts.specs.DeliversOver.{DeliversOver};
 ghost use Rattle.command_parts.specs.Reports.{IsQuiet, Reports};
 ghost use Rattle.document_replies.specs.Passing.{Passes};
+ghost use Rattle.job_loading.specs.Asked.{job_asked};
 ghost use Rattle.job_commands.specs.Contexts.{kind_of, types_of};
 ghost use Rattle.job_commands.specs.Documents.{EndsPrepared, GivesReplies, LeavesInput, Lists, front_for, ran_by};
 ghost use Rattle.job_commands.specs.Listing.{AreCodesIn, listings_of};
@@ -133,6 +135,8 @@ pub fn run<F: Files, S: Source, K: Sink>(
     ensures written { result.status ≢ Status.WriteFault → K.faults out.new ≡ K.faults out.old }
     ensures filed { result.status ≢ Status.FileFault → F.faults files.new ≡ F.faults files.old }
     ensures contents { F.content files.new ≡ F.content files.old }
+    // The job's file is asked for, and then its allowlist, and no other one.
+    ensures asked { AsksBy (F.content files.old) (F.asked files.old) (F.asked files.new) (job_asked command.Run name.now) }
 {
     script_laws();
     code_laws();

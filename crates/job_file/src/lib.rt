@@ -17,3 +17,4 @@ pub use error::JobErr;
 pub use job::Job;
 pub use limits::JobLimits;
 pub use mapping::{FieldKind, MapErr, Mapping};
+pub use values::{has_whole_numbers, members_have_whole_numbers};

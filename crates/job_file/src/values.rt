@@ -8,7 +8,8 @@ use crate::keys::ValueType;
 use crate::limits::names_limit;
 use serde_json::{Map, Value};
 
-/// Whether each number in a value is a whole one of 64 bits with a sign.
+/// Whether each number in a value is a whole one of 64 bits with a sign. It goes two calls deeper for each list or object that
+/// stands in another.
 #[cycle(numbers)]
 pub fn has_whole_numbers(value: &Value) -> bool
     ensures { result ≡ has_whole_numbers (view value.now) }
@@ -34,7 +35,7 @@ fn items_have_whole_numbers(items: &Vec<Value>) -> bool
     true
 }
 
-/// The same of the value of each member.
+/// Whether each number in the value of some member is a whole one of 64 bits with a sign.
 #[cycle(numbers)]
 pub fn members_have_whole_numbers(members: &Map<String, Value>) -> bool
     ensures { result ≡ members_have_whole_numbers (members_view members.now.entries) }

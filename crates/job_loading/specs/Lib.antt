@@ -1,4 +1,5 @@
 pub mod Loading
+pub mod Asked
 pub mod Seen
 -- Definitions of the libraries below that clauses here speak of, passed on.
 pub use Rattle.allowlist.specs.Allow

@@ -1,14 +1,18 @@
 //! A job and its allowlist.
 
-ghost use Rattle.std.specs.Prelude.{◌≡◌, ◌≢◌, ◌≤◌, ℕ, List, Option, Some, IfErr, IfOk, IfSome, length, option_map, string_bytes};
+ghost use Rattle.std.specs.Prelude.{◌≡◌, ◌≢◌, ◌≤◌, ℕ, List, [], ◌∷◌, Option, Some, IfErr, IfOk, IfSome, length, option_map, string_bytes};
 ghost use Rattle.allowlist.specs.Allow.{full_list};
 ghost use Rattle.allowlist.specs.Files.{allowlist_of};
+ghost use Rattle.outer_io.specs.Asking.{AsksFront};
 ghost use Rattle.outer_io.specs.Faults.{HasCause};
 ghost use Rattle.job_file.specs.Answers.{fields_view, job_view};
 ghost use Rattle.search_ctx.specs.Fields.{HasDistinctNames};
+ghost use Rattle.search_ctx.specs.Seeds.{seed_of};
+ghost use Rattle.command_parts.specs.Asking.{AsksBy};
 ghost use Rattle.command_parts.specs.Files.{file_told};
 ghost use Rattle.command_parts.specs.Stops.{ComesSo};
 ghost use Rattle.command_parts.specs.Told.{file_limit};
+ghost use Rattle.job_loading.specs.Asked.{asked_behind, job_asked, list_asked};
 ghost use Rattle.job_loading.specs.Loading.{job_in_bytes, job_told, job_under, list_in_file, list_named, list_told, with_list};
 ghost use Rattle.job_loading.specs.Seen.{read_view};
 
@@ -17,13 +21,15 @@ use allowlist::{Allow, Catalogue};
 use command_parts::{Stop, read_file};
 use job_file::{Job, JobCommand};
 use outer_io::Files;
-use search_ctx::job_fields_are_distinct;
+use search_ctx::{Seed, job_fields_are_distinct};
 use std::alloc::Global;
 
 /// A job, and the list of what its scripts may use.
 pub struct ReadJob {
     pub job: Job,
     pub allow: Allow,
+    /// From what the heaps of its runs are made, beside their documents: the bytes of its file.
+    pub seed: Seed,
 }
 
 impl Drop for ReadJob {
@@ -31,6 +37,7 @@ impl Drop for ReadJob {
         let ReadJob {
             job: _job,
             allow: _allow,
+            seed: _,
         } = self;
     }
 }
@@ -64,6 +71,7 @@ fn list_read<F: Files>(alloc: Global, name: &str, files: &mut F) -> Result<Allow
     ensures told { (found : Option (List ℕ)) × IfSome (F.content files.old) (λ known. known name.now ≡ found) × ComesSo (λ allow. allow) result (list_in_file (file_told found)) }
     ensures kept { F.content files.new ≡ F.content files.old }
     ensures cause { HasCause Stop.FileFault (F.faults files.old) (F.faults files.new) result }
+    ensures asks { AsksFront (F.asked files.old) (F.asked files.new) (name.now ∷ []) }
 {
     let bytes = read_file(alloc, name, files)?;
     list_of(alloc, bytes.as_slice())
@@ -83,6 +91,7 @@ fn list_named<F: Files>(
         × ComesSo (λ allow. allow) result (list_in_file (file_told found)) }
     ensures kept { F.content files.new ≡ F.content files.old }
     ensures cause { HasCause Stop.FileFault (F.faults files.old) (F.faults files.new) result }
+    ensures asks { AsksFront (F.asked files.old) (F.asked files.new) (list_asked name.now (Some allow.now)) }
 {
     if allow == name {
         list_of(alloc, bytes)
@@ -105,11 +114,19 @@ fn list_for<F: Files>(
         × ComesSo (λ allow. allow) result (list_named content (option_map string_bytes job.now.allow)) }
     ensures kept { F.content files.new ≡ F.content files.old }
     ensures cause { HasCause Stop.FileFault (F.faults files.old) (F.faults files.new) result }
+    ensures asks { AsksFront (F.asked files.old) (F.asked files.new) (list_asked name.now (option_map string_bytes job.now.allow)) }
 {
     match &job.allow {
         Some(allow) => list_named(alloc, allow.as_str(), name, bytes, files),
         None => Ok(Catalogue::full(alloc)?),
     }
+}
+
+/// From what the heaps of a job's runs are made, beside their documents, which changes no answer.
+fn seed_of(bytes: &[u8]) -> Seed
+    ensures { result ≡ seed_of bytes.now }
+{
+    Seed::of(bytes)
 }
 
 /// The job in the bytes of the file of a name, with its list.
@@ -127,10 +144,12 @@ fn job_with_list<F: Files>(
     ensures distinct { IfOk result (λ found. HasDistinctNames (fields_view found.job.mapping.fields.items)) }
     ensures kept { F.content files.new ≡ F.content files.old }
     ensures cause { HasCause Stop.FileFault (F.faults files.old) (F.faults files.new) result }
+    ensures asks { AsksFront (F.asked files.old) (F.asked files.new) (asked_behind name.now (job_told (job_in_bytes command bytes.now))) }
 {
     let job = job_of(alloc, command, bytes)?;
     let allow = list_for(alloc, &job, name, bytes, files)?;
-    Ok(ReadJob { job, allow })
+    let seed = seed_of(bytes);
+    Ok(ReadJob { job, allow, seed })
 }
 
 /// The job in the file of a name, with its list, for a command, or why the command ends: a file is absent or too long, or could
@@ -147,6 +166,8 @@ pub fn read_job<F: Files>(
     ensures distinct { IfOk result (λ found. HasDistinctNames (fields_view found.job.mapping.fields.items)) }
     ensures kept { F.content files.new ≡ F.content files.old }
     ensures cause { HasCause Stop.FileFault (F.faults files.old) (F.faults files.new) result }
+    // The names that were asked for are a front of these: the job's file, and then the allowlist that the job names.
+    ensures asked { AsksBy (F.content files.old) (F.asked files.old) (F.asked files.new) (job_asked command name.now) }
 {
     let bytes = read_file(alloc, name, files)?;
     job_with_list(alloc, command, name, bytes.as_slice(), files)

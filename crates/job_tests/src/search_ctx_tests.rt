@@ -5,4 +5,5 @@ mod binding;
 mod docs;
 mod large;
 mod lines;
+mod seeds;
 mod shown;

@@ -138,7 +138,7 @@ fn bind_members(heap: &mut Heap, members: &Map<String, Json>, frozen: bool) -> R
     ensures error { IfErr result (λ e. (e ≡ num_err.Number) → (members_have_whole_numbers (members_view members.now.entries) ≡ false)) }
     ensures grown { Grown heap.old heap.new }
 {
-    let mut pairs = Pairs::new(heap.alloc());
+    let mut pairs = Pairs::new(heap.alloc(), heap.seed());
     for (name, member) in members.iter() {
         let value = bind(heap, member, frozen)?;
         let key = Value::Str(UText::from_utf8(heap.alloc(), name.as_str())?);

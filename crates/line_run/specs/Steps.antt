@@ -1,5 +1,5 @@
 -- What single calls of a run over lines do.
-use Rattle.std.specs.Prelude.{◌≡◌, ℕ, ◌+◌, ◌-◌, ◌^◌, min, ◌||◌, List, [], ◌++◌, Option, Ok, Err, ◌⊎◌}
+use Rattle.std.specs.Prelude.{◌≡◌, ℕ, ◌+◌, ◌-◌, ◌^◌, ◌<◌, min, ◌||◌, List, [], ◌++◌, length, Option, Ok, Err, ◌⊎◌}
 use Rattle.std.specs.Io.KnownBytes.{Appends}
 use Rattle.outer_io.specs.Front.{AppendsFront}
 use Rattle.outer_io.specs.Lines.{InputLine}
@@ -26,6 +26,10 @@ pub record Adds (gives : InputLine → Reply → Type 0) (line : InputLine) (bef
   pub error : now.any_error ≡ (before.any_error || reply.error)
   pub steps : now.steps ≡ min (before.steps + reply.steps) (2 ^ 64 - 1)
 
+-- so many bytes of replies are not held longer
+abbrev pub many : ℕ
+many = 65536
+
 -- A line was read. Before the end no reply is held.
 abbrev pub HoldsNone : Line → List ℕ → Type 0
 HoldsNone (Whole bytes) held = Unit {0}
@@ -48,11 +52,12 @@ ReadsNot old new left left' held held' before s.WriteFault = AppendsFront held h
 ReadsNot old new left left' held held' before s.NoMemory = AppendsFront held held' before.bytes.items
 ReadsNot old new left left' held held' before other = ⊥
 
--- The reply to a line was put behind the others, which were then given where they are many.
+-- The reply to a line was put behind the others, which were then given where they are many: fewer bytes than so many are held behind it.
 pub record Answers (gives : InputLine → Reply → Type 0) (line : InputLine) (held held' : Option (List ℕ)) (before now : Replies) : Type 0 where
   pub between : Replies
   pub adds : Adds gives line before between
   pub given : Gives held held' between.bytes.items now.bytes.items
+  pub few : length now.bytes.items < many
   pub error : now.any_error ≡ between.any_error
   pub steps : now.steps ≡ between.steps
 

@@ -1,6 +1,6 @@
 //! Replies that are held until they are given to a sink.
 
-ghost use Rattle.std.specs.Prelude.{◌≡◌, ◌≢◌, ◌+◌, ◌-◌, ◌^◌, ◌||◌, ◌++◌, [], false, min, IfErr, IfOk, OnErr, OnOk};
+ghost use Rattle.std.specs.Prelude.{◌≡◌, ◌≢◌, ◌+◌, ◌-◌, ◌^◌, ◌<◌, ◌||◌, ◌++◌, [], false, length, min, IfErr, IfOk, OnErr, OnOk};
 ghost use Rattle.std.specs.Io.KnownBytes.{Appends};
 ghost use Rattle.outer_io.specs.Faults.{HasCause};
 ghost use Rattle.outer_io.specs.Front.{AppendsFront};
@@ -9,7 +9,7 @@ ghost use Rattle.outer_io.specs.Runs.{line_shown};
 ghost use Rattle.command_parts.specs.Writing.{IsWriteFault};
 ghost use Rattle.line_run.specs.Replies.{status_of};
 ghost use Rattle.line_run.specs.Shown.{reply_shown};
-ghost use Rattle.line_run.specs.Steps.{Adds, Gives};
+ghost use Rattle.line_run.specs.Steps.{Adds, Gives, many};
 
 use crate::replier::{Replier, ReplyLine};
 use command_parts::{Status, write_bytes};
@@ -115,6 +115,7 @@ impl Replies {
     /// Gives all replies to a sink, where they are many.
     pub(crate) fn give_many<K: Sink>(&mut self, out: &mut K) -> Result<(), Status>
         ensures whole { OnOk result (Gives (K.held out.old) (K.held out.new) self.old.bytes.items self.new.bytes.items) }
+        ensures few { OnOk result (length self.new.bytes.items < many) }
         ensures front { OnErr result (AppendsFront (K.held out.old) (K.held out.new) self.old.bytes.items) }
         ensures error { self.new.any_error ≡ self.old.any_error }
         ensures steps { self.new.steps ≡ self.old.steps }

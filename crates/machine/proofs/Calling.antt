@@ -20,8 +20,8 @@ there (suc n) (word ∷ stack) taken h = there n stack (word ∷ taken) (omega a
 
 -- a call that passes a limit
 pub limited : (codes : Codes) (limits : Limits) (n k : ℕ) (g : FunCode) (f : Frame) (below : List Frame) (w new : World) (counted : Counted) (limit : Limit) → n ≤ length f.stack → counted ≡ Passes limit new
-    → on_words (take_words n f.stack []) (λ args stack. on_enter codes limits counted k g [] f below w args stack) ≡ Ends (Limited limit new)
+    → on_words (take_words n f.stack []) (λ args stack. on_enter codes limits counted f.text k g [] f below w args stack) ≡ Ends (Limited limit new)
 limited codes limits n k g f below w new counted limit h e =
     let all = there n f.stack [] h in
-    ap (λ o. on_words o (λ args stack. on_enter codes limits counted k g [] f below w args stack)) all.1
-    ∙ ap (λ c. on_enter codes limits c k g [] f below w all.0.0 all.0.1) e
+    ap (λ o. on_words o (λ args stack. on_enter codes limits counted f.text k g [] f below w args stack)) all.1
+    ∙ ap (λ c. on_enter codes limits c f.text k g [] f below w all.0.0 all.0.1) e

@@ -13,6 +13,7 @@ pub mod Taking
 pub mod Spared
 pub mod Spaces
 pub mod Found
+mod Moving
 -- Lemmas of the libraries below, passed on.
 pub use Rattle.machine_paths.proofs.Steps
 pub use Rattle.machine_paths.proofs.Words

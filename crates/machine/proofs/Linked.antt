@@ -25,7 +25,7 @@ called_by_list codes limits list name n f below w =
     on_access codes limits (method_called list w.store receiver name arguments) f below w stack)))
 
 -- at an instruction in code whose members are those of the limits
-module _ (e : Executable) (limits : Limits) (line : Instruction) (f : Frame) (same : limits.allowed ≡ e.allow) (there : instruction_at e f ≡ Some line) where
+module _ (e : Executable) (limits : Limits) (line : Instruction) (f : Frame) (same : limits.ground.allowed ≡ e.allow) (there : instruction_at e f ≡ Some line) where
   -- what such an instruction does is what its link makes of it
   module _ (below : List Frame) (w : World) where
     abbrev acts : Instruction → Next
@@ -37,7 +37,7 @@ module _ (e : Executable) (limits : Limits) (line : Instruction) (f : Frame) (sa
     pub sized_acts : (kind : Sized) (of : List ℕ) (n : ℕ) → line ≡ i.Sized kind of n → acts line ≡ on_type (type_in (link_at e f)) (λ of. sized_act (codes_alone e.code.functions) limits kind of n f below w)
     sized_acts kind of n is = ap acts is ∙ ap (λ o. on_type o (λ of. sized_act (codes_alone e.code.functions) limits kind of n f below w)) (sym (linked.sized_names e limits line f same there kind of n is))
 
-    pub called_acts : (name : List ℕ) (n : ℕ) → line ≡ i.DefCall name n → acts line ≡ called_by_list (codes_alone e.code.functions) limits limits.allowed name n f below w
+    pub called_acts : (name : List ℕ) (n : ℕ) → line ≡ i.DefCall name n → acts line ≡ called_by_list (codes_alone e.code.functions) limits limits.ground.allowed name n f below w
     called_acts name n is = ap acts is ∙ ap (λ (list : AllowList). called_by_list (codes_alone e.code.functions) limits list name n f below w) (linked.allows e limits line f same there)
 
     pub cast_acts : (to : List ℕ) (way : Way) → line ≡ i.Cast to way → acts line ≡ on_type (type_in (link_at e f)) (λ to. cast_act (codes_alone e.code.functions) limits to (is_written way) f below w)
@@ -58,7 +58,7 @@ module _ (e : Executable) (limits : Limits) (line : Instruction) (f : Frame) (sa
     objects = store.objects
 
     abbrev Sparing : Instruction → Type 0
-    Sparing line = InstructionSpares limits.allowed line f store
+    Sparing line = InstructionSpares limits.ground.allowed line f store
 
     pub typed_spares : (kind : Typed) (of : List ℕ) → line ≡ i.Typed kind of → Sparing line → OnType (type_in (link_at e f)) (λ of. TypedSpares kind of f.stack store)
     typed_spares kind of is h = subst (λ o. OnType o (λ of. TypedSpares kind of f.stack store)) (sym (linked.typed_names e limits line f same there kind of is)) (subst Sparing is h)

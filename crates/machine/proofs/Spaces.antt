@@ -72,7 +72,7 @@ module _ (codes : Codes) (limits : Limits) (frame count k : ℕ) (from c : Confi
   here : after codes limits k (Goes (configuration_of from)) ≡ Goes (configuration_of c)
   here = ap (λ n. after codes limits n (Goes (configuration_of from))) (sym (add_zero k)) ∙ reached.leads 0
 
-  pub spares_there : Spares codes limits.allowed (configuration_of c)
+  pub spares_there : Spares codes limits.ground.allowed (configuration_of c)
   spares_there = (run.spares k (configuration_of c) less here).0
 
   pub space_there : room_of c ≡ room_of from → c.frames.count ≡ words_in (c.frames.top ∷ c.frames.below) → HasSpace codes limits.depth c

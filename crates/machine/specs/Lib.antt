@@ -10,4 +10,5 @@ pub mod Laws
 -- Definitions of the libraries below that clauses here speak of, passed on.
 pub use Rattle.machine_parts.specs.Links
 pub use Rattle.machine_parts.specs.Rooms
+pub use Rattle.machine_paths.specs.CodeRules
 pub use Rattle.machine_paths.specs.Moments

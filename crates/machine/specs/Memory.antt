@@ -77,4 +77,4 @@ pub record HasSpace (codes : Codes) (depth : ℕ) (c : Configuration) : Type 0 w
 pub record RunSpares (codes : Codes) (limits : Limits) (frame count : ℕ) (c : Configuration) : Type 0 where
   pub enough : IsEnough frame limits.depth (room_of c)
   pub spares : (k : ℕ) (at : Config) → k < count → after codes limits k (Goes (configuration_of c)) ≡ Goes at
-      → Spares codes limits.allowed at × IsWithin frame limits.depth codes at
+      → Spares codes limits.ground.allowed at × IsWithin frame limits.depth codes at

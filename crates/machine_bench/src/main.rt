@@ -6,7 +6,7 @@
 use allowlist::{Allow, Catalogue};
 use machine::{Activation, Executable, Finished, Limits, RunMemory};
 use object_heap::Heap;
-use object_values::Elements;
+use object_values::{Elements, Seed};
 use pl_code::read_listing;
 use std::alloc::{AllocError, Global};
 use std::rt::Clock;
@@ -91,7 +91,7 @@ fn straight(alloc: Global) -> Result<String, AllocError> {
 
 /// How many instructions a run takes, in turns of so many. It is 0 where the run does not end.
 fn run(alloc: Global, executable: &Executable, q: u64) -> Result<u64, AllocError> {
-    let heap = Heap::new(alloc, ROOM);
+    let heap = Heap::new(alloc, ROOM, Seed::of(b"bench"));
     let mut activation = Activation::start(executable, heap, Elements::new(alloc), LIMITS)?;
     for _ in 0..100_000_000 {
         if activation.turn(q) != Turn::More {
@@ -134,7 +134,7 @@ fn run_in(
     executable: &Executable,
     memory: RunMemory,
 ) -> Result<RunMemory, AllocError> {
-    let heap = Heap::new(alloc, ROOM);
+    let heap = Heap::new(alloc, ROOM, Seed::of(b"bench"));
     let mut activation = Activation::start_in(
         executable,
         memory,

@@ -33,15 +33,15 @@ in_script e f line there = by_text f.text there where
   by_text Prelude is = absurd (cc)
 
 -- at an instruction in code whose members are those of the limits
-module _ (e : Executable) (limits : Limits) (line : Instruction) (f : Frame) (same : limits.allowed ≡ e.allow) (there : instruction_at e f ≡ Some line) where
+module _ (e : Executable) (limits : Limits) (line : Instruction) (f : Frame) (same : limits.ground.allowed ≡ e.allow) (there : instruction_at e f ≡ Some line) where
   -- it stands in the script's text, so that its members are those of the script
-  pub allows : allowed_in limits f.text ≡ limits.allowed
+  pub allows : allowed_in limits f.text ≡ limits.ground.allowed
   allows = by_text f.text there where
-    by_text : (text : Owner) → slice_get (lines_in (slice_get (code_in (codes_alone e.code.functions) text) f.fun)) f.line ≡ Some line → allowed_in limits text ≡ limits.allowed
+    by_text : (text : Owner) → slice_get (lines_in (slice_get (code_in (codes_alone e.code.functions) text) f.fun)) f.line ≡ Some line → allowed_in limits text ≡ limits.ground.allowed
     by_text Script is = refl
     by_text Prelude is = absurd (cc)
 
-  names : (it : Instruction) → line ≡ it → link_at e f ≡ Some (link_of limits.allowed it)
+  names : (it : Instruction) → line ≡ it → link_at e f ≡ Some (link_of limits.ground.allowed it)
   names it is = ap (option_map (link_of e.allow)) (there ∙ ap Some is) ∙ ap (λ allow. Some (link_of allow it)) (sym same)
 
   pub typed_names : (kind : Typed) (of : List ℕ) → line ≡ i.Typed kind of → type_in (link_at e f) ≡ type_of_full of
@@ -56,22 +56,22 @@ module _ (e : Executable) (limits : Limits) (line : Instruction) (f : Frame) (sa
   unfolding link_of
   cast_names to way is = ap type_in (names (i.Cast to way) is) ∙ linked_type (type_of_full to)
 
-  pub method_names : (method : List ℕ) → line ≡ i.Invoke method → member_in (link_at e f) ≡ method_of limits.allowed method
+  pub method_names : (method : List ℕ) → line ≡ i.Invoke method → member_in (link_at e f) ≡ method_of limits.ground.allowed method
   unfolding link_of
-  method_names method is = ap member_in (names (i.Invoke method) is) ∙ linked_member (method_of limits.allowed method)
+  method_names method is = ap member_in (names (i.Invoke method) is) ∙ linked_member (method_of limits.ground.allowed method)
 
-  pub constructor_names : (constructor : List ℕ) → line ≡ i.New constructor → member_in (link_at e f) ≡ constructor_of limits.allowed constructor
+  pub constructor_names : (constructor : List ℕ) → line ≡ i.New constructor → member_in (link_at e f) ≡ constructor_of limits.ground.allowed constructor
   unfolding link_of
-  constructor_names constructor is = ap member_in (names (i.New constructor) is) ∙ linked_member (constructor_of limits.allowed constructor)
+  constructor_names constructor is = ap member_in (names (i.New constructor) is) ∙ linked_member (constructor_of limits.ground.allowed constructor)
 
-  pub field_names : (field : List ℕ) → line ≡ i.Field field → member_in (link_at e f) ≡ field_of limits.allowed field
+  pub field_names : (field : List ℕ) → line ≡ i.Field field → member_in (link_at e f) ≡ field_of limits.ground.allowed field
   unfolding link_of
-  field_names field is = ap member_in (names (i.Field field) is) ∙ linked_member (field_of limits.allowed field)
+  field_names field is = ap member_in (names (i.Field field) is) ∙ linked_member (field_of limits.ground.allowed field)
 
   pub text_names : (kind : Quoting) (text : List ℕ) → line ≡ i.Quoted kind text → text_in (link_at e f) ≡ Some (units text)
   unfolding link_of
   text_names kind text is = ap text_in (names (i.Quoted kind text) is)
 
-  pub methods_names : (name : List ℕ) (n : ℕ) → line ≡ i.DefCall name n → methods_in (link_at e f) ≡ Some (methods_of limits.allowed name n)
+  pub methods_names : (name : List ℕ) (n : ℕ) → line ≡ i.DefCall name n → methods_in (link_at e f) ≡ Some (methods_of limits.ground.allowed name n)
   unfolding link_of
   methods_names name n is = ap methods_in (names (i.DefCall name n) is)

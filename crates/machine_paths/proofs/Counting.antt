@@ -41,9 +41,9 @@ use Rattle.run_state.specs.Calls.{suits_member, wrong_class}
 use Rattle.run_state.specs.World.{World, Limits, Outcome, Given, Raised, Full, acts_in, Counted, Counts, Passes, Ticks, Loop, Depth, allowed_in, pay_tick, take_turn, goes_deeper, enter, reach, reaches, pay_member}
 use Rattle.code_meaning.specs.declared.word.Word.{Word}
 use Rattle.code_meaning.specs.declared.word.Word.TheVariants.{I, J, R}
-use Rattle.code_meaning.specs.Members.{Receiving, Unfit, OnNull, Receives, Reads, count_of, given_as, ints_in, received, references_in, taken, taken_alike}
+use Rattle.code_meaning.specs.Members.{Receiving, Unfit, OnNull, Receives, Reads, count_of, given_as, ints_in, received, references_in, taken, taken_alike, taken_result}
 use Rattle.code_meaning.specs.Words.{Calculation, NoRow, Calculates, boxed, calculation, op_of_dynamic, unboxed}
-use Rattle.code_meaning.specs.Machine.{Codes, code_in, function_of, Frame, Config, Next, Goes, Ends, Stuck, Handlers, is_instance, lands, traps_of, unwind, on_top, on_int, on_reference, on_value, on_values, on_first, on_local, on_stack, on_words, to_line, take_words, copied, depth_of, is_written, on_outcome, on_done, on_found, on_found_paid, on_access, on_put, on_put_paid, on_write, dynamic_given, operator_act, sized_act, method_act, on_thrown, on_calculation, gives_back, returns, returns_of, on_turn, on_enter, on_call, on_act, on_paid, on_tested, on_received, plain_act, numbered_act, quoted_act, typed_act, member_act, act, acts, lines_of, step, after}
+use Rattle.code_meaning.specs.Machine.{Codes, code_in, function_of, Frame, Config, Next, Goes, Ends, Stuck, Handlers, is_instance, lands, traps_of, unwind, on_top, on_int, on_reference, on_value, on_values, on_first, on_local, on_stack, on_words, to_line, take_words, copied, depth_of, is_written, on_outcome, on_done, on_found, on_found_paid, on_access, on_put, on_put_paid, on_write, dynamic_given, operator_act, sized_act, method_act, on_thrown, on_calculation, on_given, cast_each, gives_back, returns, returns_of, on_turn, on_enter, on_call, on_act, on_paid, on_tested, on_received, plain_act, numbered_act, quoted_act, typed_act, member_act, act, acts, lines_of, step, after}
 use Rattle.code_fit.proofs.Nexts.{int_holds, long_holds, type_holds, ints_hold, loops_hold, chosen_holds, either_holds, null_holds}
 use Rattle.machine_paths.specs.Fast.{Leads}
 use Rattle.machine_paths.specs.Steps.{TurnsFit, CountsFit}
@@ -202,6 +202,20 @@ module _ (codes : Codes) (limits : Limits) where
   done_fits : (e : Effect) (f : Frame) (below : List Frame) (w : World) (stack : List Word) → TurnsFit w.ticks (f ∷ below) → NextFits (on_done codes limits (acts_in w e) f below w stack)
   done_fits e f below w stack h = done_fits_on (acts_in w e) f below w stack h (acting_keeps w e)
 
+  -- ---- the casts that are due, which pay no tick
+
+  given_fits : (o : Outcome Value) (f : Frame) (below : List Frame) (w : World) (next : Value → World → Next) → TurnsFit w.ticks (f ∷ below) → KeepsTicks w o
+      → ((value : Value) (w' : World) → TurnsFit w'.ticks (f ∷ below) → NextFits (next value w')) → NextFits (on_given codes limits o f below w next)
+  given_fits (Given value w') f below w next h e k = k value w' (as_many w.ticks w'.ticks e (f ∷ below) h)
+  given_fits (Raised id w') f below w next h e k = unwind_fits (f ∷ below) id w' (as_many w.ticks w'.ticks e (f ∷ below) h)
+  given_fits Full f below w next h e k = tt
+
+  each_fits : (tos : List Ty) (value : Value) (f : Frame) (below : List Frame) (w : World) → TurnsFit w.ticks (f ∷ below) → NextFits (cast_each codes limits tos value f below w)
+  each_fits [] value f below w h = h
+  each_fits (to ∷ tos) value f below w h =
+      let cast = effect w.store (cast_at_run_time w.store.objects value to false) in
+      given_fits (acts_in w cast) f below w _ h (acting_keeps w cast) (λ value w' h'. each_fits tos value f below w' h')
+
   -- ---- what is found for a receiver when the code runs
 
   found_fits : (o : Option Effect) (f : Frame) (below : List Frame) (w : World) (stack : List Word) → TurnsFit w.ticks (f ∷ below) → NextFits (on_found codes limits o f below w stack)
@@ -212,7 +226,7 @@ module _ (codes : Codes) (limits : Limits) where
       → NextFits (on_found_paid codes limits c number arguments f below stack)
   found_paid_fits (Passes limit w') number arguments f below w stack h p = tt
   found_paid_fits (Counts w') number arguments f below w stack h p =
-      found_fits (does limits.host number arguments w'.store) f below w' stack (lower w.ticks w'.ticks p (f ∷ below) h)
+      found_fits (does limits.ground.host number arguments w'.store) f below w' stack (lower w.ticks w'.ticks p (f ∷ below) h)
 
   access_fits : (a : Access) (f : Frame) (below : List Frame) (w : World) (stack : List Word) → TurnsFit w.ticks (f ∷ below) → NextFits (on_access codes limits a f below w stack)
   access_fits (Calls number arguments) f below w stack h = found_paid_fits (pay_member f.text number w) number arguments f below w stack h (member_pays f.text number w)
@@ -226,7 +240,7 @@ module _ (codes : Codes) (limits : Limits) where
       → NextFits (on_put_paid codes limits c number arguments f below stack)
   put_paid_fits (Passes limit w') number arguments f below w stack h p = tt
   put_paid_fits (Counts w') number arguments f below w stack h p =
-      put_fits (does limits.host number arguments w'.store) f below w' stack (lower w.ticks w'.ticks p (f ∷ below) h)
+      put_fits (does limits.ground.host number arguments w'.store) f below w' stack (lower w.ticks w'.ticks p (f ∷ below) h)
 
   write_fits : (a : Access) (f : Frame) (below : List Frame) (w : World) (stack : List Word) → TurnsFit w.ticks (f ∷ below) → NextFits (on_write codes limits a f below w stack)
   write_fits (Calls number arguments) f below w stack h = put_paid_fits (pay_member f.text number w) number arguments f below w stack h (member_pays f.text number w)
@@ -242,7 +256,7 @@ module _ (codes : Codes) (limits : Limits) where
       → NextFits (on_paid codes limits c number arguments t f below stack)
   paid_fits (Passes limit w') number arguments t f below w stack h p = tt
   paid_fits (Counts w') number arguments t f below w stack h p =
-      act_fits (does limits.host number arguments w'.store) t f below w' stack (lower w.ticks w'.ticks p (f ∷ below) h)
+      act_fits (does limits.ground.host number arguments w'.store) t f below w' stack (lower w.ticks w'.ticks p (f ∷ below) h)
 
   tested_fits : (suits : Bool) (number : ℕ) (arguments : List Value) (t : MemberType) (f : Frame) (below : List Frame) (w : World) (stack : List Word) → TurnsFit w.ticks (f ∷ below)
       → NextFits (on_tested codes limits suits number arguments t f below w stack)
@@ -254,7 +268,7 @@ module _ (codes : Codes) (limits : Limits) where
   received_fits Unfit number t f below w stack h = tt
   received_fits OnNull number t f below w stack h = effect_fits (effect w.store null_error) (given_as t.result) f below w stack h
   received_fits (Receives arguments) number t f below w stack h = tested_fits (suits_member w.store.objects t arguments) number arguments t f below w stack h
-  received_fits Reads number t f below w stack h = act_fits (does limits.host number [] w.store) t f below w stack h
+  received_fits Reads number t f below w stack h = act_fits (does limits.ground.host number [] w.store) t f below w stack h
 
   -- ---- in a frame
 
@@ -273,7 +287,7 @@ module _ (codes : Codes) (limits : Limits) where
     gives_fit : (fs : List Frame) (due : List Ty) (result : Option Word) → TurnsFit w.ticks fs → NextFits (gives_back codes limits fs due result w)
     gives_fit [] due result h = tt
     gives_fit (g ∷ fs) [] result h = h
-    gives_fit (g ∷ fs) (to ∷ more) result h = tt
+    gives_fit (g ∷ fs) (from ∷ tos) result h = value_fits (taken_result from result) _ (λ value. each_fits tos value g fs w h)
 
     returns_fit : (kind : Option Slot) → NextFits (returns_of codes limits kind f.stack (λ result. gives_back codes limits below f.due result w))
     returns_fit None = gives_fit below f.due None here.1
@@ -287,14 +301,14 @@ module _ (codes : Codes) (limits : Limits) where
     turn_fits (Passes limit w') to stack p = tt
     turn_fits (Counts w') to stack p = (one_more f.turns w.ticks w'.ticks p here.0, lower w.ticks w'.ticks p below here.1)
 
-    enter_fits : (c : Counted) (k : ℕ) (g : FunCode) (args stack : List Word) → PaysTick w c → NextFits (on_enter codes limits c k g [] f below w args stack)
-    enter_fits (Passes limit w') k g args stack p = tt
-    enter_fits (Counts w') k g args stack p = (first_turn f.turns w.ticks w'.ticks p here.0, lower w.ticks w'.ticks p (f ∷ below) here)
+    enter_fits : (c : Counted) (text : Owner) (k : ℕ) (g : FunCode) (due : List Ty) (args stack : List Word) → PaysTick w c → NextFits (on_enter codes limits c text k g due f below w args stack)
+    enter_fits (Passes limit w') text k g due args stack p = tt
+    enter_fits (Counts w') text k g due args stack p = (first_turn f.turns w.ticks w'.ticks p here.0, lower w.ticks w'.ticks p (f ∷ below) here)
 
     call_fits : (o : Option FunCode) (k : ℕ) → NextFits (on_call codes limits o k f below w)
     call_fits None k = tt
     call_fits (Some g) k =
-        words_fit _ _ (λ args stack. enter_fits (enter limits (depth_of below) w) k g args stack (call_pays limits (depth_of below) w))
+        words_fit _ _ (λ args stack. enter_fits (enter limits (depth_of below) w) f.text k g [] args stack (call_pays limits (depth_of below) w))
 
     on_one : (next : Value → List Word → Next) → ((value : Value) (stack : List Word) → NextFits (next value stack)) → NextFits (on_top f.stack (λ word stack. on_reference word (λ value. next value stack)))
     on_one next k = top_fits f.stack _ (λ word stack. reference_fits word _ (λ value. k value stack))

@@ -76,7 +76,7 @@ module _ (codes : Codes) (limits : Limits) where
   called old new g k ticks store reached h less e =
       let w : World = record { store = store; ticks = ticks; reached = reached } in
       let paid : World = record { store = store; ticks = ticks - 1; reached = reached } in
-      ap (λ c. on_words (take_words (length g.params) old.top.stack []) (λ args stack. on_enter codes limits c k g [] old.top old.below w args stack)) (pays limits (depth_of old.below) ticks store reached h less)
+      ap (λ c. on_words (take_words (length g.params) old.top.stack []) (λ args stack. on_enter codes limits c old.top.text k g [] old.top old.below w args stack)) (pays limits (depth_of old.below) ticks store reached h less)
       ∙ entered (take_words (length g.params) old.top.stack []) k g.locals old.top old.below new.top new.below paid e
 
   pub given_back : (old new : Laid) (word : Word) (w : World) (done : Bool) → Some word ≡ slice_get old.top.stack 0 → old.top.due ≡ [] → GivesBack word old.top old.below new.top new.below done

@@ -5,7 +5,7 @@ use allowlist::{Allow, Catalogue};
 use code_meaning::Word;
 use machine::{Activation, Executable, Limits, RunEnd, RunOutcome};
 use object_heap::{Heap, Which};
-use object_values::{Elements, Value};
+use object_values::{Elements, Seed, Value};
 use pl_code::read_listing;
 use std::alloc::{AllocError, Global};
 use std::test::Fail;
@@ -79,7 +79,7 @@ fn run_in_turns(
         depth: row.depth,
         ticks: row.ticks,
     };
-    let heap = Heap::new(alloc, row.room);
+    let heap = Heap::new(alloc, row.room, Seed::of(b"test"));
     let mut activation = Activation::start(executable, heap, Elements::new(alloc), limits)?;
     for _ in 0..10_000 {
         if activation.turn(q) != Turn::More {
@@ -180,7 +180,7 @@ fn members_are_reached_once(rt: HostRuntime) -> Result<(), Fail> {
         depth: 0,
         ticks: 100,
     };
-    let heap = Heap::new(alloc, 100);
+    let heap = Heap::new(alloc, 100, Seed::of(b"test"));
     let executable = Executable::new(alloc, code, allow, FRAME)?;
     let mut activation = Activation::start(&executable, heap, Elements::new(alloc), limits)?;
     activation.turn(100);

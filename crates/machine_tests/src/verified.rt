@@ -6,7 +6,7 @@ use allowlist::{Allow, Catalogue};
 use code_meaning::Word;
 use machine::{Limits, RunEnd, RunOutcome};
 use object_heap::{Heap, Which};
-use object_values::{Elements, Object, Value};
+use object_values::{Elements, Object, Seed, Value};
 use pl_code::read_listing;
 use pl_types::classes::{CLASS_CAST_EXCEPTION, NULL_POINTER_EXCEPTION};
 use std::alloc::{AllocError, Global};
@@ -130,7 +130,7 @@ fn started<'c>(
     if !fit_main(code.code(), arguments.as_slice()) {
         return Ok(None);
     }
-    let heap = Heap::new(alloc, 1000);
+    let heap = Heap::new(alloc, 1000, Seed::of(b"test"));
     match VerifiedActivation::start(code, heap, arguments, limits) {
         Ok(activation) => Ok(Some(activation)),
         Err(error) => Err(error),

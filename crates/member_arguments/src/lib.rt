@@ -7,4 +7,4 @@ mod paying;
 pub use arguments::{
     byte_at, char_at, flag_at, int_at, long_at, object_at, sequence_at, text_at, value_at,
 };
-pub use paying::pay_text;
+pub use paying::{pay_text, text_room};

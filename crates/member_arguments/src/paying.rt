@@ -1,4 +1,5 @@
 //! How a text that a member makes is paid.
+ghost use Rattle.std.specs.Prelude.{◌≡◌, ◌-◌};
 ghost use Rattle.object_heap.specs.Effects.{Answers, gives_text};
 
 use object_heap::{Answer, Heap, HeapErr};
@@ -20,4 +21,11 @@ pub fn pay_text(heap: &mut Heap, text: UText) -> Answer
             Answer::NoMemory
         }
     }
+}
+
+/// How many units a text may have for which there is room.
+pub fn text_room(heap: &Heap) -> u64
+    ensures { result ≡ heap.now.room - 1 }
+{
+    heap.room_left().saturating_sub(1)
 }

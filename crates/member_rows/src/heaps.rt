@@ -1,7 +1,7 @@
 //! Heaps by lines, each of which is an object.
 use crate::values::{first_word, object_of, value_of, values_of};
 use object_heap::Heap;
-use object_values::{Elements, Guard, Object, Pairs, Part};
+use object_values::{Elements, Guard, Object, Pairs, Part, Seed};
 use pl_types::Ty;
 use pl_types::classes::{ARRAY_LIST, HASH_MAP, HASH_SET, SCRIPT_DOC_VALUES};
 use pl_units::UText;
@@ -34,7 +34,7 @@ fn put_pair(alloc: Global, pairs: &mut Pairs, word: &str) -> Option<()> {
 }
 
 fn pairs_of(alloc: Global, words: &str) -> Option<Pairs> {
-    let mut pairs = Pairs::new(alloc);
+    let mut pairs = Pairs::new(alloc, Seed::of(b"test"));
     for word in words.split(' ') {
         if !word.is_empty() {
             put_pair(alloc, &mut pairs, word)?;
@@ -121,7 +121,7 @@ fn object_in(alloc: Global, line: &str) -> Option<Object> {
 
 /// The heap of these objects, with so much room.
 pub fn heap_of(alloc: Global, objects: &str, room: u64) -> Option<Heap> {
-    let mut heap = Heap::new(alloc, room);
+    let mut heap = Heap::new(alloc, room, Seed::of(b"test"));
     for line in objects.lines() {
         let object = object_in(alloc, line)?;
         heap.place(object).ok()?;

@@ -2,7 +2,7 @@
 use crate::heaps::heap_of;
 use crate::values::{first_word, object_of, value_of, values_of};
 use object_heap::{Answer, Heap};
-use object_values::Value;
+use object_values::{Seed, Value};
 use std::alloc::Global;
 use std::string::String;
 use value_walks::{VISITS, text};
@@ -123,7 +123,7 @@ fn holds<M: Members>(alloc: Global, objects: &str, heap: &mut Heap, line: &str) 
 
 /// The number of the first line, from 1, that does not hold or cannot be read; 0 where there is none.
 pub fn first_wrong<M: Members>(alloc: Global, objects: &str, rows: &str) -> usize {
-    let mut heap = Heap::new(alloc, 0);
+    let mut heap = Heap::new(alloc, 0, Seed::of(b"test"));
     let mut place = 0usize;
     for line in rows.lines() {
         place = place.saturating_add(1);

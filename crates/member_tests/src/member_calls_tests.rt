@@ -2,7 +2,7 @@
 
 use member_calls::{call, is_built};
 use object_heap::{Answer, Heap};
-use object_values::Value;
+use object_values::{Seed, Value};
 use pl_units::UText;
 use std::alloc::{AllocError, Global};
 use std::test::Fail;
@@ -36,7 +36,7 @@ fn is_none(answer: &Option<Answer>) -> bool {
 
 #[test]
 fn members_act_by_their_numbers(rt: HostRuntime) -> Result<(), Fail> {
-    let mut heap = Heap::new(rt.alloc(), 100);
+    let mut heap = Heap::new(rt.alloc(), 100, Seed::of(b"test"));
     let text = alone(
         rt.alloc(),
         Value::Str(UText::from_utf8(rt.alloc(), "four")?),

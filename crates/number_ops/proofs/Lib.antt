@@ -1,3 +1,4 @@
+pub mod TextRoom
 pub mod Keeping
 pub mod KindsOf
 pub mod Needing

@@ -13,7 +13,7 @@ use Rattle.arithmetic.specs.declared.operator.Num.{Num}
 use Rattle.arithmetic.specs.declared.operator.Num.TheVariants as n
 use Rattle.arithmetic.specs.Operators.{arith_of}
 use Rattle.value_walks.specs.declared.TheConstants.{VISITS}
-use Rattle.value_walks.specs.Texts.{Text, Wrote, TooDeep, TooLarge, text_of}
+use Rattle.value_walks.specs.Texts.{Text, Wrote, TooDeep, TooLarge, follow, text_of}
 use Rattle.number_ops.specs.declared.outcome.Outcome.{Outcome}
 use Rattle.number_ops.specs.declared.outcome.Outcome.TheVariants.{Gives, Makes}
 use Rattle.number_ops.specs.Outcomes.{is_text, null_error, zero_divisor, too_deep, too_large}
@@ -129,7 +129,11 @@ followed_by TooLarge next = too_large
 abbrev pub after : List ℕ → List Object → Value → Outcome
 after text objects value = followed_by (text_of objects value VISITS) (λ more. Makes (text ++ more))
 
--- the text of one value and then that of another. Each has a budget of visits of its own
+-- the text of one value and then that of another, as one walk. Each has a budget of visits of its own
+abbrev pub both_texts : List Object → Value → Value → Text
+both_texts objects a b = follow (text_of objects a VISITS) (λ rest. text_of objects b VISITS)
+
+-- the text of one value and then that of another
 abbrev pub concatenated : List Object → Value → Value → Outcome
 concatenated objects a b = followed_by (text_of objects a VISITS) (λ text. after text objects b)
 

@@ -6,8 +6,10 @@ use Rattle.object_values.specs.declared.value.Value.{Value}
 use Rattle.object_values.specs.declared.value.Value.TheVariants as v
 use Rattle.object_heap.specs.declared.answer.Answer.{Answer}
 use Rattle.object_heap.specs.declared.answer.Answer.TheVariants as a
-use Rattle.object_heap.specs.Effects.{Effect, Gives, gives_text, throws}
+use Rattle.object_heap.specs.Effects.{Effect, Gives, NoRoom, gives_text, throws}
 use Rattle.object_heap.specs.Store.{Store}
+use Rattle.number_ops.specs.declared.affording.Afforded.{Afforded}
+use Rattle.number_ops.specs.declared.affording.Afforded.TheVariants as afforded
 use Rattle.number_ops.specs.declared.outcome.Raised.{Raised}
 use Rattle.number_ops.specs.declared.outcome.Raised.TheVariants.{Arithmetic, ClassCast, IllegalState, NullPointer, NumberFormat}
 use Rattle.number_ops.specs.declared.outcome.Outcome.{Outcome}
@@ -44,6 +46,12 @@ Tells told outcome.NoMemory = NeedsMemory told
 Tells told (outcome.Gives value) = told ≡ outcome.Gives value
 Tells told (outcome.Makes text) = told ≡ outcome.Makes text
 Tells told (outcome.Throws raised message) = told ≡ outcome.Throws raised message
+
+-- What a function says is the outcome, where a text is made only if there is room for it: it may say that there is none where that is
+-- the effect of the outcome
+abbrev pub Affords : Store → Outcome → Afforded → Type 0
+Affords store told (afforded.Told outcome) = Tells told outcome
+Affords store told afforded.NoRoom = effect store told ≡ NoRoom
 
 -- a call answers want of memory only where something is made or copied
 abbrev pub WantsMemory : Outcome → Answer → Type 0

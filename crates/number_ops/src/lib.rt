@@ -1,6 +1,7 @@
 //! Operators and casts of values whose types are found at run time, and the members of numbers, chars and truth values.
 #![tactic(auto)]
 
+mod affording;
 mod casts;
 mod chars;
 mod errors;

@@ -1,10 +1,11 @@
 //! The members of Object, Comparable, Number, Byte to Long, Character, Boolean and Math.
 ghost use Rattle.std.specs.Prelude.{◌≡◌};
 ghost use Rattle.object_heap.specs.Effects.{Answers};
-ghost use Rattle.number_ops.specs.Outcomes.{Tells, WantsMemory, effect, nothing};
+ghost use Rattle.number_ops.specs.Outcomes.{Affords, Tells, WantsMemory, effect, nothing};
 ghost use Rattle.number_ops.specs.Members as spec;
 ghost use Rattle.number_ops.specs.Members.{does, does_numbered, members, numbered, number_value};
 
+use crate::affording::Afforded;
 use crate::casts::number_as;
 use crate::chars::{OneChar, flag_order, of_char, parse_flag};
 use crate::errors::null_error;
@@ -59,12 +60,12 @@ fn compare_of(heap: &Heap, args: &[Value]) -> Outcome
     }
 }
 
-fn text_of(heap: &Heap, args: &[Value]) -> Outcome
-    ensures { Tells (spec.text_member heap.now.objects args.now) result }
+fn text_of(heap: &Heap, args: &[Value]) -> Afforded
+    ensures { Affords heap.now (spec.text_member heap.now.objects args.now) result }
 {
     match args.get(0) {
         Some(value) => to_text(heap, value),
-        None => null_error(),
+        None => Afforded::Told(null_error()),
     }
 }
 
@@ -191,26 +192,26 @@ fn parse_flag_member(args: &[Value]) -> Outcome
     }
 }
 
-fn does(heap: &Heap, member: Member, args: &[Value]) -> Outcome
-    ensures { Tells (does heap.now.objects member args.now) result }
+fn does(heap: &Heap, member: Member, args: &[Value]) -> Afforded
+    ensures { Affords heap.now (does heap.now.objects member args.now) result }
 {
     match member {
-        Member::Equals => equals_of(heap, args),
+        Member::Equals => Afforded::Told(equals_of(heap, args)),
         Member::ToText => text_of(heap, args),
-        Member::CompareTo => compare_of(heap, args),
-        Member::NumberAs(primitive) => number_of(primitive, args),
-        Member::Field(field) => Outcome::Gives(constant_of(field)),
-        Member::UnsignedByte => byte_member(args),
-        Member::OfInt(member) => int_member(heap, member, args),
-        Member::OfInts(member) => ints_member(member, args),
-        Member::OfLong(member) => long_member(heap, member, args),
-        Member::OfLongs(member) => longs_member(heap, member, args),
-        Member::ParseInt => parse_int_member(heap, args),
-        Member::ParseLong => parse_long_member(heap, args),
-        Member::OfChar(member) => char_member(member, args),
-        Member::BooleanValue => flag_value(args),
-        Member::BooleanCompare => flag_compare(args),
-        Member::ParseBoolean => parse_flag_member(args),
+        Member::CompareTo => Afforded::Told(compare_of(heap, args)),
+        Member::NumberAs(primitive) => Afforded::Told(number_of(primitive, args)),
+        Member::Field(field) => Afforded::Told(Outcome::Gives(constant_of(field))),
+        Member::UnsignedByte => Afforded::Told(byte_member(args)),
+        Member::OfInt(member) => Afforded::Told(int_member(heap, member, args)),
+        Member::OfInts(member) => Afforded::Told(ints_member(member, args)),
+        Member::OfLong(member) => Afforded::Told(long_member(heap, member, args)),
+        Member::OfLongs(member) => Afforded::Told(longs_member(heap, member, args)),
+        Member::ParseInt => Afforded::Told(parse_int_member(heap, args)),
+        Member::ParseLong => Afforded::Told(parse_long_member(heap, args)),
+        Member::OfChar(member) => Afforded::Told(char_member(member, args)),
+        Member::BooleanValue => Afforded::Told(flag_value(args)),
+        Member::BooleanCompare => Afforded::Told(flag_compare(args)),
+        Member::ParseBoolean => Afforded::Told(parse_flag_member(args)),
     }
 }
 
@@ -293,12 +294,12 @@ fn member_of(number: u32) -> Option<Member>
     }
 }
 
-fn does_numbered(heap: &Heap, number: u32, args: &[Value]) -> Outcome
-    ensures { Tells (does_numbered heap.now.objects number args.now) result }
+fn does_numbered(heap: &Heap, number: u32, args: &[Value]) -> Afforded
+    ensures { Affords heap.now (does_numbered heap.now.objects number args.now) result }
 {
     match member_of(number) {
         Some(member) => does(heap, member, args),
-        None => nothing(),
+        None => Afforded::Told(nothing()),
     }
 }
 

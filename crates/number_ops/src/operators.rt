@@ -1,18 +1,21 @@
 //! Operators on values whose types are found at run time.
 ghost use Rattle.std.specs.Prelude.{◌≡◌};
 ghost use Rattle.object_heap.specs.Effects.{Answers};
+ghost use Rattle.value_walks.specs.Texts.{Writes};
 ghost use Rattle.number_ops.specs.Operators as spec;
-ghost use Rattle.number_ops.specs.Outcomes.{Tells, WantsMemory, effect, too_deep, too_large, zero_divisor};
-ghost use Rattle.number_ops.specs.Operators.{calculated, operate, concatenated};
+ghost use Rattle.number_ops.specs.Outcomes.{Affords, Tells, WantsMemory, effect, too_deep, too_large, zero_divisor};
+ghost use Rattle.number_ops.specs.Operators.{both_texts, calculated, operate, concatenated};
 ghost use Rattle.arithmetic.specs.Operators.{arith_of};
 
+use crate::affording::{Afforded, text_afforded};
 use crate::errors::{cannot_apply, cannot_apply_to_one, null_error, says};
 use crate::outcome::{Outcome, Raised};
 use crate::values::{boxed, compares, is_null, is_text, number_in, truth_in};
 use arithmetic::{Num, Op, arith};
+use member_arguments::text_room;
 use object_heap::{Answer, Heap};
 use object_values::Value;
-use value_walks::{TextErr, VISITS, push_text};
+use value_walks::{Output, TextErr, VISITS, push_text, text_written};
 
 /// An operator whose operands have types that are found here. Bytes, shorts and chars become ints, and where one side is a long
 /// both become longs; a shift has the type of its left side. `+` concatenates the texts of both sides where one is a text. `&`,
@@ -36,50 +39,41 @@ pub fn concatenate(heap: &mut Heap, a: &Value, b: &Value) -> Answer
     concatenated(heap, a, b).settle(heap)
 }
 
-fn operate(heap: &Heap, op: Op, a: &Value, b: &Value) -> Outcome
-    ensures { Tells (operate heap.now.objects op a.now b.now) result }
+fn operate(heap: &Heap, op: Op, a: &Value, b: &Value) -> Afforded
+    ensures { Affords heap.now (operate heap.now.objects op a.now b.now) result }
 {
     match op {
         Op::Add => sum(heap, a, b),
-        Op::Neg | Op::Not | Op::Pos => unary(heap, op, a),
-        _ => binary(heap, op, a, b),
+        Op::Neg | Op::Not | Op::Pos => Afforded::Told(unary(heap, op, a)),
+        _ => Afforded::Told(binary(heap, op, a, b)),
     }
 }
 
-fn sum(heap: &Heap, a: &Value, b: &Value) -> Outcome
-    ensures { Tells (spec.sum heap.now.objects a.now b.now) result }
+fn sum(heap: &Heap, a: &Value, b: &Value) -> Afforded
+    ensures { Affords heap.now (spec.sum heap.now.objects a.now b.now) result }
 {
     if is_text(a) || is_text(b) {
         concatenated(heap, a, b)
     } else {
-        binary(heap, Op::Add, a, b)
+        Afforded::Told(binary(heap, Op::Add, a, b))
     }
 }
 
-#[tactic(auto, using(crate::proofs::Needing::concatenated_needs))]
-fn concatenated(heap: &Heap, a: &Value, b: &Value) -> Outcome
-    ensures { Tells (concatenated heap.now.objects a.now b.now) result }
+// Writes the text of one value and then that of another.
+fn push_both(heap: &Heap, a: &Value, b: &Value, out: &mut Output) -> Result<u64, TextErr>
+    ensures { Writes (both_texts heap.now.objects a.now b.now) out.old out.new result }
 {
-    let mut text = Vec::new(heap.alloc());
-    match push_text(heap, a, VISITS, &mut text) {
-        Ok(_) => followed(heap, text, b),
-        Err(TextErr::Deep) => too_deep(heap),
-        Err(TextErr::Large) => too_large(heap),
-        Err(TextErr::NoMemory) => Outcome::NoMemory,
-    }
+    push_text(heap, a, VISITS, out)?;
+    push_text(heap, b, VISITS, out)
 }
 
-// The text of a value behind another.
-#[tactic(auto, using(crate::proofs::Needing::after_needs))]
-fn followed(heap: &Heap, mut text: Vec<u16>, value: &Value) -> Outcome
-    ensures { Tells (spec.after text.items heap.now.objects value.now) result }
+// The text is made if there is room for it.
+fn concatenated(heap: &Heap, a: &Value, b: &Value) -> Afforded
+    ensures { Affords heap.now (concatenated heap.now.objects a.now b.now) result }
 {
-    match push_text(heap, value, VISITS, &mut text) {
-        Ok(_) => Outcome::made_of(text),
-        Err(TextErr::Deep) => too_deep(heap),
-        Err(TextErr::Large) => too_large(heap),
-        Err(TextErr::NoMemory) => Outcome::NoMemory,
-    }
+    let mut out = Output::new(heap.alloc(), text_room(heap));
+    let walked = push_both(heap, a, b, &mut out);
+    text_afforded(heap, text_written(out, walked))
 }
 
 /// The exception of a walk that goes too deep.

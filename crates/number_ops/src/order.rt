@@ -1,18 +1,20 @@
 //! Natural order, and the members of Object and Comparable.
 ghost use Rattle.std.specs.Prelude.{◌≡◌, ◌-◌, None, length, slice_get};
-ghost use Rattle.number_ops.specs.Outcomes.{Tells};
+ghost use Rattle.number_ops.specs.Outcomes.{Affords, Tells};
 ghost use Rattle.number_ops.specs.Order as spec;
 ghost use Rattle.number_ops.specs.Order.{compare, equals, to_text, natural, text_order};
 
+use crate::affording::{Afforded, text_afforded};
 use crate::chars::flag_order;
 use crate::errors::{cannot_compare, null_error};
 use crate::numbers::comparison;
 use crate::operators::{too_deep, too_large};
 use crate::outcome::Outcome;
 use crate::values::is_null;
+use member_arguments::text_room;
 use object_heap::Heap;
 use object_values::Value;
-use value_walks::{TextErr, VISITS, Walked, equal, text};
+use value_walks::{VISITS, Walked, equal, text_within};
 
 // The length of a text as an int, at most the greatest one.
 fn length_as_int(length: usize) -> i32
@@ -173,15 +175,9 @@ pub fn equals(heap: &Heap, a: &Value, b: &Value) -> Outcome
     }
 }
 
-/// The text of a value.
-#[tactic(auto, using(crate::proofs::Needing::text_needs))]
-pub fn to_text(heap: &Heap, value: &Value) -> Outcome
-    ensures { Tells (to_text heap.now.objects value.now) result }
+/// The text of a value, which is made if there is room for it.
+pub fn to_text(heap: &Heap, value: &Value) -> Afforded
+    ensures { Affords heap.now (to_text heap.now.objects value.now) result }
 {
-    match text(heap, value, VISITS) {
-        Ok(text) => Outcome::Makes(text),
-        Err(TextErr::Deep) => too_deep(heap),
-        Err(TextErr::Large) => too_large(heap),
-        Err(TextErr::NoMemory) => Outcome::NoMemory,
-    }
+    text_afforded(heap, text_within(heap, value, VISITS, text_room(heap)))
 }

@@ -58,16 +58,6 @@ fn class_raised(raised: Raised) -> u32
 }
 
 impl Outcome {
-    /// A text of these units that is made, unless there is no memory for it.
-    pub(crate) fn made_of(units: Vec<u16>) -> Outcome
-        ensures { Tells (Outcome.Makes units.items) result }
-    {
-        match UText::from_units(units) {
-            Ok(text) => Outcome::Makes(text),
-            Err(_) => Outcome::NoMemory,
-        }
-    }
-
     /// Pays for it: a value is free, a text costs its units and 1, and an exception the units of its message and 1.
     pub fn settle(self, heap: &mut Heap) -> Answer
         ensures exact { (told : Outcome) → Tells told self → Answers (effect heap.old told) heap.old heap.new result }

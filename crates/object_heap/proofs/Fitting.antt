@@ -11,7 +11,7 @@ use Rattle.object_values.specs.declared.object.Target.TheVariants as t
 use Rattle.object_values.specs.Values.{is_simple}
 use Rattle.object_values.specs.Pairs.{value_of}
 use Rattle.object_heap.specs.Fits.{kinds, is_map, can_iterate, Typed, Rules, is_element, target_fits, ValueFits, AllFit, PairsFit, KeysFit, AreElements, ObjectFits, ObjectsFit, Fits, ItemFits, PutsFit}
-use Rattle.object_heap.specs.Objects.{Kind, AList, kind_of, may_become, changed, changed_by, with_item, with_inserted, with_all_inserted, with_removed, with_put, with_all_put, with_key_cut, with_pair_cut, with_units, renewed_by, retired_target, retired}
+use Rattle.object_heap.specs.Objects.{Kind, AList, kind_of, may_become, changed, changed_by, with_item, with_inserted, with_all_inserted, with_removed, with_put, with_all_put, with_key_cut, with_pair_cut, with_units, with_spliced, renewed_by, retired_target, retired}
 use Rattle.object_heap.specs.Parts.{object_items, object_pairs, object_captures, items_of, pairs_of, captures_of}
 use Rattle.object_heap.specs.Store.{with_change}
 use Rattle.object_heap.proofs.Growth.{cons_changed}
@@ -292,6 +292,21 @@ pub append_fits : (rules : Rules) (objects : List Object) (id : ℕ) (more : Lis
 append_fits rules objects id more f = changed_fits rules objects id (with_units more) (record {
   kind = units_kind more;
   fit = λ object is g. units_fit rules (kinds objects) more object g;
+}) f
+
+-- units in the place of others of a builder
+spliced_kind : (from to : ℕ) (more : List ℕ) (object : Object) → may_become (kind_of object) (kind_of (with_spliced from to more object)) ≡ true
+spliced_kind from to more (o.Builder units) = refl
+spliced_kind from to more object = becomes_refl (kind_of object)
+
+spliced_fit : (rules : Rules) (ks : List Kind) (from to : ℕ) (more : List ℕ) (object : Object) → ObjectFits rules ks object → ObjectFits rules ks (with_spliced from to more object)
+spliced_fit rules ks from to more (o.Builder units) f = tt
+spliced_fit rules ks from to more object f = f
+
+pub splice_fits : (rules : Rules) (objects : List Object) (id from to : ℕ) (more : List ℕ) → Fits rules objects → Fits rules (with_change objects id (with_spliced from to more))
+splice_fits rules objects id from to more f = changed_fits rules objects id (with_spliced from to more) (record {
+  kind = spliced_kind from to more;
+  fit = λ object is g. spliced_fit rules (kinds objects) from to more object g;
 }) f
 
 -- an object that is replaced

@@ -1,5 +1,6 @@
 -- How changes of objects change the weight of a store.
 use Rattle.std.proofs.Common.{◌≡◌, ℕ, zero, suc, ◌+◌, ◌-◌, ◌*◌, ◌≤◌, ◌∙◌, Bool, true, false, Option, Some, None, List, [], ◌∷◌, ◌++◌, length, take, drop, refl, ap, add-one, arith, length-append, slice_get, if◌then◌else◌}
+use Rattle.std.proofs.lemmas.List.{length-drop, length-take-le}
 use Rattle.std.proofs.lemmas.List.Edits.{length-insert}
 use Rattle.std.proofs.lemmas.Bool.Decides.{nat_tests}
 use Rattle.object_values.specs.declared.value.Value.{Value}
@@ -9,7 +10,7 @@ use Rattle.object_values.specs.declared.object.Object.TheVariants as o
 use Rattle.object_values.specs.Pairs.{value_of, key_at, with_pair, with_pairs, HasDistinctKeys}
 use Rattle.object_values.specs.Values.{same_value}
 use Rattle.object_values.specs.Keys.{values_symm}
-use Rattle.object_heap.specs.Objects.{weight_of, with_inserted, insert_growth, with_all_inserted, insert_all_growth, with_put, with_all_put, with_units, units_growth, put_growth, put_all_growth, new_growth, new_key, new_keys, renewed_by, renewal_growth, may_become, kind_of}
+use Rattle.object_heap.specs.Objects.{weight_of, with_inserted, insert_growth, with_all_inserted, insert_all_growth, with_put, with_all_put, with_units, units_growth, with_spliced, splice_growth, put_growth, put_all_growth, new_growth, new_key, new_keys, renewed_by, renewal_growth, may_become, kind_of}
 use Rattle.object_heap.specs.Parts.{asked}
 use Rattle.object_heap.specs.Store.{weight, changed_at, with_change}
 use Rattle.object_heap.proofs.PairLemmas.{not_found}
@@ -81,6 +82,19 @@ units_weigh more object = omega arith
 pub append_grows : (objects : List Object) (id : ℕ) (more : List ℕ)
     → weight (with_change objects id (with_units more)) - weight objects ≡ asked (units_growth (length more)) 0 (slice_get objects id)
 append_grows objects id more = change_grows objects id _ _ (units_weigh more)
+
+length-spliced : (from to : ℕ) (units more : List ℕ) → from ≤ to → to ≤ length units → length (take from units ++ more ++ drop to units) + (to - from) ≡ length units + length more
+length-spliced from to units more h g =
+    omega (arith, length-append (take from units ++ more) (drop to units), length-append (take from units) more, length-take-le from units (omega arith), length-drop to units)
+
+spliced_weighs : (from to : ℕ) (more : List ℕ) (object : Object) → weight_of (with_spliced from to more object) - weight_of object ≡ splice_growth from to (length more) object
+unfolding weight_of
+spliced_weighs from to more (o.Builder units) = grind (arith, nat_tests, length-spliced)
+spliced_weighs from to more object = omega arith
+
+pub splice_grows : (objects : List Object) (id from to : ℕ) (more : List ℕ)
+    → weight (with_change objects id (with_spliced from to more)) - weight objects ≡ asked (splice_growth from to (length more)) 0 (slice_get objects id)
+splice_grows objects id from to more = change_grows objects id _ _ (spliced_weighs from to more)
 
 length-with_pair : (pairs : List (Value × Value)) (key value : Value) → length (with_pair pairs key value) ≡ length pairs + new_growth (value_of pairs key) 1
 length-with_pair [] key value = refl

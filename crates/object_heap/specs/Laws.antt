@@ -11,7 +11,7 @@ use Rattle.object_heap.specs.declared.answer.Answer.{Answer}
 use Rattle.object_heap.specs.declared.error.HeapErr.{HeapErr}
 use Rattle.object_heap.specs.Effects.{Effect, Answers, throws}
 use Rattle.object_heap.specs.Fits.{kinds, Rules, ValueFits, AllFit, ObjectFits, Fits, ItemFits, PutsFit, EffectFits, AnswerFits}
-use Rattle.object_heap.specs.Objects.{with_item, with_inserted, with_all_inserted, with_removed, with_put, with_all_put, with_key_cut, with_pair_cut, with_units, renewed_by, retired}
+use Rattle.object_heap.specs.Objects.{with_item, with_inserted, with_all_inserted, with_removed, with_put, with_all_put, with_key_cut, with_pair_cut, with_units, with_spliced, renewed_by, retired}
 use Rattle.object_heap.specs.Parts.{items_of, pairs_of, captures_of}
 use Rattle.object_heap.specs.Paying.{Pays, PaysSurely}
 use Rattle.object_heap.specs.Store.{Store, with_change}
@@ -75,6 +75,10 @@ MapCutAtFits = (rules : Rules) (objects : List Object) (id at : ℕ) → Fits ru
 abbrev pub AppendFits : Type 0
 AppendFits = (rules : Rules) (old new : Store) (id : ℕ) (more : List ℕ) (result : Result (Unit {0}) HeapErr)
     → Pays old new (with_change old.objects id (with_units more)) 0 result → Fits rules old.objects → Fits rules new.objects
+
+abbrev pub SpliceFits : Type 0
+SpliceFits = (rules : Rules) (old new : Store) (id from to : ℕ) (more : List ℕ) (result : Result (Unit {0}) HeapErr)
+    → Pays old new (with_change old.objects id (with_spliced from to more)) 0 result → Fits rules old.objects → Fits rules new.objects
 
 abbrev pub ThrowFits : Type 0
 ThrowFits = (rules : Rules) (old new : Store) (class : ℕ) (message : Option (List ℕ)) (answer : Answer) → Answers (throws old class message) old new answer

@@ -1,5 +1,5 @@
 -- Objects: what each weighs, what one operation makes of one, and which may replace which.
-use Rattle.std.specs.Prelude.{Bool, true, false, ℕ, suc, ◌==◌, ◌+◌, ◌-◌, ◌*◌, ◌%◌, ◌^◌, nat_le, nat_lt, if◌then◌else◌, Option, Some, None, List, [], ◌∷◌, length, ◌++◌, slice_get, slice_set, insert, remove, take, drop}
+use Rattle.std.specs.Prelude.{Bool, true, false, ℕ, suc, ◌==◌, ◌+◌, ◌-◌, ◌*◌, ◌%◌, ◌^◌, ◌&&◌, nat_le, nat_lt, if◌then◌else◌, Option, Some, None, List, [], ◌∷◌, length, ◌++◌, slice_get, slice_set, insert, remove, take, drop}
 use Rattle.pl_types.specs.declared.ty.Ty.{Ty}
 use Rattle.pl_types.specs.Types.{same_types}
 use Rattle.object_values.specs.declared.value.Value.{Value}
@@ -105,7 +105,19 @@ abbrev pub with_units : List ℕ → Object → Object
 with_units more (o.Builder units) = o.Builder (units ++ more)
 with_units more object = object
 
--- how much an insertion of one item and of several, a put and units add to the weight
+-- whether units have places from one up to another
+abbrev pub has_run : ℕ → ℕ → List ℕ → Bool
+has_run from to units = nat_le from to && nat_le to (length units)
+
+-- with units in the place of those from one place up to another, in a builder that has the places
+abbrev pub spliced : ℕ → ℕ → List ℕ → List ℕ → List ℕ
+spliced from to more units = if has_run from to units then take from units ++ more ++ drop to units else units
+
+abbrev pub with_spliced : ℕ → ℕ → List ℕ → Object → Object
+with_spliced from to more (o.Builder units) = o.Builder (spliced from to more units)
+with_spliced from to more object = object
+
+-- how much an insertion of one item and of several, a put and units, at the end and in the place of others, add to the weight
 abbrev pub insert_growth : ℕ → Object → ℕ
 insert_growth at (o.List class items guard changes) = if nat_le at (length items) then 1 else 0
 insert_growth at object = 0
@@ -117,6 +129,10 @@ insert_all_growth at count object = 0
 abbrev pub units_growth : ℕ → Object → ℕ
 units_growth count (o.Builder units) = count
 units_growth count object = 0
+
+abbrev pub splice_growth : ℕ → ℕ → ℕ → Object → ℕ
+splice_growth from to count (o.Builder units) = if has_run from to units then count - (to - from) else 0
+splice_growth from to count object = 0
 
 abbrev pub new_growth : Option Value → ℕ → ℕ
 new_growth None growth = growth

@@ -1,7 +1,7 @@
 //! Changes of one object. What a change does not apply to stays as it is.
-ghost use Rattle.std.specs.Prelude.{◌≡◌, ◌-◌, ◌≤◌, ◌++◌, length, take, drop, IfOk, OnOk, OnErr, slice_get, remove};
+ghost use Rattle.std.specs.Prelude.{◌≡◌, ◌-◌, length, IfOk, OnOk, OnErr, slice_get, remove};
 ghost use Rattle.object_values.specs.Pairs.{value_of, with_pair, with_pairs, without_key};
-ghost use Rattle.object_heap.specs.Objects.{changed_by, with_inserted, with_all_inserted, with_item, with_removed, with_put, with_all_put, with_key_cut, with_pair_cut, with_units, put_counted, cut_counted, pair_counted};
+ghost use Rattle.object_heap.specs.Objects.{changed_by, with_inserted, with_all_inserted, with_item, with_removed, with_put, with_all_put, with_key_cut, with_pair_cut, with_units, with_spliced, spliced, put_counted, cut_counted, pair_counted};
 ghost use Rattle.object_heap.specs.Parts.{object_items, list_items, object_pairs, items_of, list_items_of, pairs_of};
 ghost use Rattle.object_heap.specs.Store.{with_change};
 
@@ -75,7 +75,7 @@ fn insert_all_into(object: &mut Object, at: usize, more: Elements<Value>) -> Res
         Object::List { items, changes, .. } => {
             if at <= items.len() {
                 let count = more.len() as u64;
-                insert_all(items, at, more)?;
+                items.insert_all(at, more)?;
                 *changes = changes.wrapping_add(count);
             } else {
                 drop(more);
@@ -87,34 +87,6 @@ fn insert_all_into(object: &mut Object, at: usize, more: Elements<Value>) -> Res
             Ok(())
         }
     }
-}
-
-fn insert_all(
-    items: &mut Elements<Value>,
-    at: usize,
-    more: Elements<Value>,
-) -> Result<(), AllocError>
-    requires { at ≤ length items.old }
-    ensures ok { OnOk result (items.new ≡ take at items.old ++ more ++ drop at items.old) }
-    ensures err { OnErr result (items.new ≡ items.old) }
-{
-    let more = more.into_vec();
-    let mut all = std::mem::replace(items, Elements::new(*more.allocator())).into_vec();
-    let moved = move_into(&mut all, at, more);
-    *items = Elements::from_vec(all);
-    moved
-}
-
-// The items go behind the others, and then behind them those that stood from the place on.
-fn move_into(all: &mut Vec<Value>, at: usize, mut more: Vec<Value>) -> Result<(), AllocError>
-    requires { at ≤ length all.old.items }
-    ensures ok { OnOk result (all.new.items ≡ take at all.old.items ++ more.items ++ drop at all.old.items) }
-    ensures err { OnErr result (all.new.items ≡ all.old.items) }
-{
-    let count = more.len();
-    all.append(&mut more)?;
-    all[at..].rotate_right(count);
-    Ok(())
 }
 
 /// Writes an item of a list or an array.
@@ -351,6 +323,49 @@ fn append_to(object: &mut Object, more: &[u16]) -> Result<(), AllocError>
     match object {
         Object::Builder { units } => units.extend(more),
         _ => Ok(()),
+    }
+}
+
+/// Puts units in the place of those of a builder from one place up to another.
+pub fn splice_units(
+    objects: &mut Vec<Object>,
+    id: u32,
+    from: usize,
+    to: usize,
+    units: &[u16],
+) -> Result<(), AllocError>
+    ensures ok { OnOk result (objects.new.items ≡ with_change objects.old.items id (with_spliced from to units.now)) }
+    ensures err { OnErr result (objects.new.items ≡ objects.old.items) }
+{
+    match objects.get_mut(id as usize) {
+        Some(object) => splice_in(object, from, to, units),
+        None => Ok(()),
+    }
+}
+
+fn splice_in(object: &mut Object, from: usize, to: usize, more: &[u16]) -> Result<(), AllocError>
+    ensures ok { OnOk result (object.new ≡ with_spliced from to more.now object.old) }
+    ensures err { OnErr result (object.new ≡ object.old) }
+{
+    match object {
+        Object::Builder { units } => splice_run(units, from, to, more),
+        _ => Ok(()),
+    }
+}
+
+fn splice_run(
+    units: &mut Elements<u16>,
+    from: usize,
+    to: usize,
+    more: &[u16],
+) -> Result<(), AllocError>
+    ensures ok { OnOk result (units.new ≡ spliced from to more.now units.old) }
+    ensures err { OnErr result (units.new ≡ units.old) }
+{
+    if from <= to && to <= units.len() {
+        units.splice(from, to, more)
+    } else {
+        Ok(())
     }
 }
 

@@ -4,16 +4,16 @@ ghost use Rattle.std.specs.Option.{option_copied};
 
 use crate::changes::{
     append_units, cut_item, cut_key, cut_pair_at, insert_item, insert_items, put_item, put_key,
-    put_pairs,
+    put_pairs, splice_units,
 };
 use crate::error::HeapErr;
 use crate::parts;
 use crate::renewal::{renew_at, renewal_growth_at, retire_all};
 use crate::weights::{
-    all_within, insert_all_growth, insert_growth, put_all_growth, put_growth, units_growth,
-    weight_within,
+    all_within, insert_all_growth, insert_growth, put_all_growth, put_growth, splice_growth,
+    units_growth, weight_within,
 };
-use object_values::{Elements, Guard, Object, Pairs, Target, Value};
+use object_values::{Elements, Guard, Object, Pairs, Seed, Target, Value};
 use pl_types::Ty;
 use pl_units::UText;
 use std::alloc::{AllocError, Global};
@@ -25,9 +25,12 @@ use std::marker::Model;
 /// Every call answers for every number, place and kind of object: what is not there is empty or nothing, and a change that
 /// does not apply changes nothing. A call that is paid takes the growth of the heap's weight from the room, and nothing where
 /// it shrinks.
+///
+/// A heap has a seed, by which maps and sets hash their keys, so that nobody who chooses keys can choose ones that collide.
 pub struct Heap {
     objects: Vec<Object>,
     room: u64,
+    seed: Seed,
 }
 
 impl Model for Heap {
@@ -47,31 +50,38 @@ impl Drop for Heap {
         let Heap {
             objects: _objects,
             room: _room,
+            seed: _seed,
         } = self;
     }
 }
 
 impl Heap {
     ghost use Rattle.object_values.specs.Pairs.{value_of, key_at, pair_value_at};
-    ghost use Rattle.object_heap.specs.Objects.{with_item, with_inserted, with_all_inserted, with_removed, with_put, with_all_put, with_key_cut, with_pair_cut, with_units, renewed_by, retired};
+    ghost use Rattle.object_heap.specs.Objects.{with_item, with_inserted, with_all_inserted, with_removed, with_put, with_all_put, with_key_cut, with_pair_cut, with_units, with_spliced, renewed_by, retired};
     ghost use Rattle.object_heap.specs.Parts.{items_of, list_items_of, map_of, pairs_of, size_of, class_of, guard_of, frozen_of, changes_of, units_of, elem_of, message_of, iface_of, target_of, captures_of};
     ghost use Rattle.object_heap.specs.Store.{with_change};
     ghost use Rattle.object_heap.specs.Paying.{Pays, PaysSurely};
     ghost use Rattle.object_heap.specs.declared.error.HeapErr.TheVariants.{Room};
 
-    /// No objects, and this much room. It takes no memory.
-    pub fn new(alloc: Global, room: u64) -> Heap
+    /// No objects, and this much room. The seed is for the maps and sets that are made here. It takes no memory.
+    pub fn new(alloc: Global, room: u64, seed: Seed) -> Heap
         ensures { result ≡ record { objects = []; room = room } }
     {
         Heap {
             objects: Vec::new(alloc),
             room,
+            seed,
         }
     }
 
     /// The allocator that its objects take their memory from.
     pub fn alloc(&self) -> Global {
         *self.objects.allocator()
+    }
+
+    /// The seed of the maps and sets that are made here. No answer depends on it.
+    pub fn seed(&self) -> Seed {
+        self.seed
     }
 
     /// The room that is left.
@@ -323,6 +333,31 @@ impl Heap {
             return Err(HeapErr::Room);
         }
         match append_units(&mut self.objects, id, units) {
+            Ok(()) => {
+                self.room -= growth;
+                Ok(())
+            }
+            Err(_) => Err(HeapErr::NoMemory),
+        }
+    }
+
+    /// Puts units in the place of those of a builder from one place up to another, if it has these places. What stands before
+    /// them is not touched.
+    #[tactic(auto, using(crate::proofs::Paying::paid_if, crate::proofs::Paying::paid_not, crate::proofs::Growth::splice_grows))]
+    pub fn splice_units(
+        &mut self,
+        id: u32,
+        from: usize,
+        to: usize,
+        units: &[u16],
+    ) -> Result<(), HeapErr>
+        ensures { Pays self.old self.new (with_change self.old.objects id (with_spliced from to units.now)) 0 result }
+    {
+        let growth = splice_growth(self.objects.as_slice(), id, from, to, units.len());
+        if growth > self.room {
+            return Err(HeapErr::Room);
+        }
+        match splice_units(&mut self.objects, id, from, to, units) {
             Ok(()) => {
                 self.room -= growth;
                 Ok(())

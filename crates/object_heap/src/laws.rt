@@ -1,5 +1,5 @@
 //! Laws on what the calls of the heap keep.
-ghost use Rattle.object_heap.specs.Laws.{NewFits, RefillFits, ChargeFits, PlaceFits, AddFits, RenewFits, PutFits, GrowFits, ExtendFits, CutFits, MapPutFits, MapExtendFits, MapCutFits, MapCutAtFits, AppendFits, ThrowFits, AnswersFit, ItemsFit, ValuesFit, CapturesFit};
+ghost use Rattle.object_heap.specs.Laws.{NewFits, RefillFits, ChargeFits, PlaceFits, AddFits, RenewFits, PutFits, GrowFits, ExtendFits, CutFits, MapPutFits, MapExtendFits, MapCutFits, MapCutAtFits, AppendFits, SpliceFits, ThrowFits, AnswersFit, ItemsFit, ValuesFit, CapturesFit};
 
 /// Laws that callers may cite: each call keeps the fit of the heap.
 pub fn heap_keeps_fit()
@@ -18,6 +18,7 @@ pub fn heap_keeps_fit()
     ensures map_cut { MapCutFits }
     ensures map_cut_at { MapCutAtFits }
     ensures append { AppendFits }
+    ensures splice { SpliceFits }
     ensures throw { ThrowFits }
 
     // What a member's effect keeps, its call keeps.

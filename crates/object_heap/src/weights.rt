@@ -1,5 +1,5 @@
 //! What objects weigh, and how much a change adds.
-ghost use Rattle.std.specs.Prelude.{◌≡◌, ◌<◌, ◌≤◌, ◌^◌, suc, length, MatchOption, slice_get};
+ghost use Rattle.std.specs.Prelude.{◌≡◌, ◌<◌, ◌≤◌, ◌^◌, ◌-◌, ◌&&◌, nat_le, suc, length, MatchOption, slice_get, if◌then◌else◌};
 ghost use Rattle.object_values.specs.Pairs.{value_of, key_at, HasDistinctKeys};
 ghost use Rattle.object_heap.specs.Objects.{weight_of, new_growth, new_keys};
 ghost use Rattle.object_heap.specs.Parts.{asked};
@@ -91,6 +91,26 @@ pub fn units_growth(objects: &[Object], id: u32, count: usize) -> u64
     match objects.get(id as usize) {
         Some(Object::Builder { .. }) => count as u64,
         _ => 0,
+    }
+}
+
+/// How much units in the place of those of a builder from one place up to another add to the weight.
+pub fn splice_growth(objects: &[Object], id: u32, from: usize, to: usize, count: usize) -> u64
+    ensures { result ≡ asked (spec.splice_growth from to count) 0 (slice_get objects.now id) }
+{
+    match objects.get(id as usize) {
+        Some(Object::Builder { units }) => run_growth(units.len(), from, to, count),
+        _ => 0,
+    }
+}
+
+fn run_growth(len: usize, from: usize, to: usize, count: usize) -> u64
+    ensures { result ≡ (if nat_le from to && nat_le to len then count - (to - from) else 0) }
+{
+    if from <= to && to <= len {
+        count.saturating_sub(to - from) as u64
+    } else {
+        0
     }
 }
 

@@ -1,6 +1,6 @@
 -- Looking up, setting and taking out, by the map's words and by ours.
-use Rattle.std.proofs.Common.{◌≡◌, false, Some, None, List, [], ◌∷◌, refl, ap, if◌then◌else◌}
-use Rattle.std.specs.Map.{lookup, remove_entry, keys_of}
+use Rattle.std.proofs.Common.{◌≡◌, Bool, true, false, cond, Some, None, List, [], ◌∷◌, refl, ap, subst, if◌then◌else◌}
+use Rattle.std.specs.Map.{lookup, lookup_key, remove_entry, keys_of}
 use Rattle.std.specs.List.{IsDistinct, AllByRecursion}
 use Rattle.indexmap.specs.IndexMap.{insert_entry, insert_all}
 use Rattle.object_values.specs.declared.value.Value.{Value}
@@ -32,3 +32,13 @@ pub distinct : (pairs : List (Value × Value)) → IsDistinct same_value (keys_o
 unfolding IsDistinct
 distinct [] h = tt
 distinct (pair ∷ pairs) h = (none_found pairs pair.0 h.0, distinct pairs h.1)
+
+-- a key that the map found is the one that was looked for
+passes_if : (pair : Value × Value) (pairs : List (Value × Value)) (key found : Value) (test : Bool) → same_value key pair.0 ≡ test → cond test (Some pair.0) (lookup_key (same_value key) pairs) ≡ Some found
+    → (lookup_key (same_value key) pairs ≡ Some found → same_value key found ≡ true) → same_value key found ≡ true
+passes_if pair pairs key found true e h next = let one : pair.0 ≡ found = cc in subst (λ (k : Value). same_value key k ≡ true) one e
+passes_if pair pairs key found false e h next = next h
+
+pub passes : (pairs : List (Value × Value)) (key found : Value) → lookup_key (same_value key) pairs ≡ Some found → same_value key found ≡ true
+passes [] key found h = cc
+passes (pair ∷ pairs) key found h = passes_if pair pairs key found (same_value key pair.0) refl h (passes pairs key found)

@@ -1,8 +1,10 @@
--- What an owner holds that may hold nothing yet.
-use Rattle.std.specs.Prelude.{Option, Some, None, List, []}
-use Rattle.std.specs.Global.{Box}
+-- What pairs hold, in the form that they have.
+use Rattle.std.specs.Prelude.{List, []}
+use Rattle.object_values.specs.declared.value.Value.{Value}
+use Rattle.object_values.specs.declared.pairs.Form.{Form}
+use Rattle.object_values.specs.declared.pairs.Form.TheVariants.{Empty, Whole, Parted}
 
--- the items of a list in a box, or none where there is no box
-abbrev pub held : {A : Type 0} → Option (Box (List A)) → List A
-held None = []
-held (Some box) = box.value
+abbrev pub held : Form → List (Value × Value)
+held Empty = []
+held (Whole table) = table.value
+held (Parted parts) = parts.value

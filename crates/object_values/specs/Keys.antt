@@ -1,9 +1,11 @@
 -- Values of one kind with one content are one, and are hashed alike.
-use Rattle.std.specs.Prelude.{◌≡◌, ◌++◌, Bool, true, false, refl}
+use Rattle.std.specs.Prelude.{◌≡◌, ℕ, List, [], ◌∷◌, ◌++◌, Bool, true, false, cond, refl, length, bit_or, bit_xor}
 use Rattle.std.proofs.Common.{ap, sym, subst}
 use Rattle.std.specs.Cmp.{IsEquivalence}
 use Rattle.std.specs.Cmp.Lexicographic.{nat_list_eq_equiv}
 use Rattle.std.specs.Hash as fed
+use Rattle.std.specs.Hash.FoldHasher.{shl}
+use Rattle.std.specs.Int.{w8, w16, w32, w64, cast_unsigned}
 use Rattle.std.proofs.lemmas.Cmp.{int_eq_equiv, nat_eq_equiv}
 use Rattle.std.proofs.lemmas.Bool.{eqb-true}
 use Rattle.std.proofs.lemmas.Bool.Decides.{Decides-int_eq}
@@ -60,17 +62,37 @@ values_equiv = record {
   congr = λ a b c h. ap (λ (x : Value). same_value x c) (values_exact a b h);
 }
 
--- what a value gives a hasher: the number of its kind, and its content
+-- the number of a kind in the highest byte of a word, joined with a content
+abbrev pub word : ℕ → ℕ → ℕ
+word kind content = bit_xor content (shl kind 56)
+
+-- up to four units as one word, the first lowest
+abbrev pub four_units : ℕ → ℕ → ℕ → ℕ → ℕ
+four_units a b c d = bit_or (bit_or (bit_or a (shl b 16)) (shl c 32)) (shl d 48)
+
+-- what the units of a text give a hasher: words of four each, and one of those that are left
+abbrev pub units_fed : List ℕ → fed.HashWrites
+units_fed [] = []
+units_fed (a ∷ []) = fed.u64 (four_units a 0 0 0)
+units_fed (a ∷ b ∷ []) = fed.u64 (four_units a b 0 0)
+units_fed (a ∷ b ∷ c ∷ []) = fed.u64 (four_units a b c 0)
+units_fed (a ∷ b ∷ c ∷ d ∷ rest) = fed.u64 (four_units a b c d) ++ units_fed rest
+
+-- what a text gives a hasher: its kind and length, and then its units
+abbrev pub text_fed : List ℕ → fed.HashWrites
+text_fed units = fed.u64 (word 7 (length units)) ++ units_fed units
+
+-- what a value gives a hasher: the number of its kind with its content
 abbrev pub value_fed : Value → fed.HashWrites
-value_fed v.Null = fed.u8 0
-value_fed (v.Bool flag) = fed.u8 1 ++ fed.bool flag
-value_fed (v.Byte number) = fed.u8 2 ++ fed.i8 number
-value_fed (v.Short number) = fed.u8 3 ++ fed.i16 number
-value_fed (v.Char unit) = fed.u8 4 ++ fed.u16 unit
-value_fed (v.Int number) = fed.u8 5 ++ fed.i32 number
-value_fed (v.Long number) = fed.u8 6 ++ fed.i64 number
-value_fed (v.Str text) = fed.u8 7 ++ fed.slice fed.u16 text
-value_fed (v.Ref id) = fed.u8 8 ++ fed.u32 id
+value_fed v.Null = fed.u64 (word 0 0)
+value_fed (v.Bool flag) = fed.u64 (word 1 (cond flag 1 0))
+value_fed (v.Byte number) = fed.u64 (word 2 (cast_unsigned w8 number))
+value_fed (v.Short number) = fed.u64 (word 3 (cast_unsigned w16 number))
+value_fed (v.Char unit) = fed.u64 (word 4 unit)
+value_fed (v.Int number) = fed.u64 (word 5 (cast_unsigned w32 number))
+value_fed (v.Long number) = fed.u64 (word 6 (cast_unsigned w64 number))
+value_fed (v.Str text) = text_fed text
+value_fed (v.Ref id) = fed.u64 (word 8 id)
 
 pub equal_fed : (a b : Value) → same_value a b ≡ true → value_fed a ≡ value_fed b
 equal_fed a b h = ap value_fed (values_exact a b h)

@@ -1,5 +1,5 @@
 -- Pairs of keys and values, in the order in which the keys came.
-use Rattle.std.specs.Prelude.{◌≡◌, ℕ, Option, Some, None, List, [], ◌∷◌, slice_get, if◌then◌else◌}
+use Rattle.std.specs.Prelude.{◌≡◌, ℕ, true, Option, Some, None, List, [], ◌∷◌, slice_get, if◌then◌else◌}
 use Rattle.object_values.specs.declared.value.Value.{Value}
 use Rattle.object_values.specs.Values.{same_value}
 
@@ -43,3 +43,14 @@ key_at pairs at = key_in (slice_get pairs at)
 
 abbrev pub pair_value_at : List (Value × Value) → ℕ → Option Value
 pair_value_at pairs at = value_in (slice_get pairs at)
+
+-- a key stands at a place
+pub record StandsAt (pairs : List (Value × Value)) (key : Value) (at : ℕ) : Type 0 where
+  pub pair : Value × Value
+  pub here : slice_get pairs at ≡ Some pair
+  pub same : same_value key pair.0 ≡ true
+
+-- no key of further pairs is there
+abbrev pub AreNew : List (Value × Value) → List (Value × Value) → Type 0
+AreNew pairs [] = Unit {0}
+AreNew pairs (pair ∷ more) = (value_of pairs pair.0 ≡ None) × AreNew pairs more

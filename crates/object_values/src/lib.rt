@@ -4,6 +4,8 @@
 mod elements;
 mod object;
 mod pairs;
+mod parts;
+mod seed;
 mod table;
 mod value;
 
@@ -11,4 +13,5 @@ pub use elements::Elements;
 pub use object::{Guard, Object, Owner, Part, Target};
 pub use pairs::Pairs;
 pub use pl_units::UText;
+pub use seed::Seed;
 pub use value::Value;

@@ -1,5 +1,6 @@
 //! Values of scripts: which of them are one, and how they are hashed.
-ghost use Rattle.std.specs.Prelude.{◌≡◌, IfOk};
+ghost use Rattle.std.specs.Prelude.{◌≡◌, IfOk, fold};
+ghost use Rattle.object_values.specs.Keys.{word, four_units, text_fed, units_fed};
 
 use pl_units::UText;
 use std::alloc::AllocError;
@@ -41,6 +42,16 @@ impl Drop for Value {
             Value::Str(_text) => {}
             Value::Ref(_id) => {}
         }
+    }
+}
+
+impl Default for Value {
+    ghost use Rattle.object_values.specs.declared.value.Value.TheVariants.{Null};
+
+    ghost is_default = { λ value. value ≡ Null };
+
+    fn default() -> Value {
+        Value::Null
     }
 }
 
@@ -106,6 +117,10 @@ impl Eq for Value {
     ghost laws = { values_equiv };
 }
 
+// Each value gives one word, and a text further words of its units. `FoldHasher` takes the 8 bytes of a word in by one product of two
+// factors: what it holds, which no one who chooses keys knows, joined with the word, and a number that is fixed and not 0. So
+// no word makes that product 0 but the one that is what it holds. A write of 9 to 16 bytes joins its second half with a number
+// that everybody knows: a chosen half would make that product 0, and all texts with that half would collide.
 impl Hash for Value {
     ghost use Rattle.object_values.specs.Keys.{value_fed, equal_fed};
 
@@ -115,39 +130,54 @@ impl Hash for Value {
 
     fn hash<H: Hasher>(&self, state: &mut H) {
         match self {
-            Value::Null => 0u8.hash(state),
-            Value::Bool(flag) => {
-                1u8.hash(state);
-                flag.hash(state);
-            }
-            Value::Byte(number) => {
-                2u8.hash(state);
-                number.hash(state);
-            }
-            Value::Short(number) => {
-                3u8.hash(state);
-                number.hash(state);
-            }
-            Value::Char(unit) => {
-                4u8.hash(state);
-                unit.hash(state);
-            }
-            Value::Int(number) => {
-                5u8.hash(state);
-                number.hash(state);
-            }
-            Value::Long(number) => {
-                6u8.hash(state);
-                number.hash(state);
-            }
-            Value::Str(text) => {
-                7u8.hash(state);
-                text.units().hash(state);
-            }
-            Value::Ref(id) => {
-                8u8.hash(state);
-                id.hash(state);
-            }
+            Value::Null => state.write_u64(word(0, 0)),
+            Value::Bool(flag) => state.write_u64(word(1, u64::from(*flag))),
+            Value::Byte(number) => state.write_u64(word(2, u64::from(number.cast_unsigned()))),
+            Value::Short(number) => state.write_u64(word(3, u64::from(number.cast_unsigned()))),
+            Value::Char(unit) => state.write_u64(word(4, u64::from(*unit))),
+            Value::Int(number) => state.write_u64(word(5, u64::from(number.cast_unsigned()))),
+            Value::Long(number) => state.write_u64(word(6, number.cast_unsigned())),
+            Value::Str(text) => feed_text(text.units(), state),
+            Value::Ref(id) => state.write_u64(word(8, u64::from(*id))),
         }
+    }
+}
+
+// The number of a kind in the highest byte, joined with a content. A word stands for one long at most and for one other value.
+fn word(kind: u8, content: u64) -> u64
+    ensures { result ≡ word kind content }
+{
+    content ^ (kind as u64) << 56
+}
+
+// Up to four units as one word, the first lowest.
+fn four_units(a: u16, b: u16, c: u16, d: u16) -> u64
+    ensures { result ≡ four_units a b c d }
+{
+    a as u64 | (b as u64) << 16 | (c as u64) << 32 | (d as u64) << 48
+}
+
+// Feeds the kind and the length of a text, and then its units.
+fn feed_text<H: Hasher>(units: &[u16], state: &mut H)
+    ensures { state.new ≡ fold H.write state.old (text_fed units.now) }
+{
+    state.write_u64(word(7, units.len() as u64));
+    feed_units(units, state);
+}
+
+// Feeds units, four at a time, and then those that are left.
+fn feed_units<H: Hasher>(units: &[u16], state: &mut H)
+    ensures { state.new ≡ fold H.write state.old (units_fed units.now) }
+{
+    let mut rest = units;
+    while let [a, b, c, d, more @ ..] = rest {
+        state.write_u64(four_units(*a, *b, *c, *d));
+        rest = more;
+    }
+    match rest {
+        [a, b, c] => state.write_u64(four_units(*a, *b, *c, 0)),
+        [a, b] => state.write_u64(four_units(*a, *b, 0, 0)),
+        [a] => state.write_u64(four_units(*a, 0, 0, 0)),
+        _ => {}
     }
 }

@@ -21,18 +21,19 @@ pub end-moved : (bytes : List ℕ) (taken count most room : ℕ) → 1 ≤ most 
 end-moved bytes taken count most room m r is zero =
     rw (← drop-drop count taken bytes) (empty-of_length (drop count (drop taken bytes)) (omega (arith, length-drop count (drop taken bytes))))
 
--- a front of the bytes was appended, the rest is still to come, and the count of faults stands where it stood
-pub record Given (old new : Option (List ℕ)) (bytes rest : List ℕ) (before now : ℕ) : Type 0 where
+-- a front of the bytes was appended, the rest is still to come, and the counts of faults and of wants stand where they stood
+pub record Given (old new : Option (List ℕ)) (bytes rest : List ℕ) (before now wanted wants : ℕ) : Type 0 where
   pub front : List ℕ
   pub parts : front ++ rest ≡ bytes
   pub appended : Appends old new front
   pub quiet : now ≡ before
+  pub enough : wants ≡ wanted
 
 -- one more front was given
-pub given_more : (old mid new : Option (List ℕ)) (bytes rest behind : List ℕ) (before between now count : ℕ)
-    → Given old mid bytes rest before between → Appends mid new (take count rest) → behind ≡ drop count rest → now ≡ between
-    → Given old new bytes behind before now
-given_more old mid new bytes rest behind before between now count given more is quiet = record {
+pub given_more : (old mid new : Option (List ℕ)) (bytes rest behind : List ℕ) (before between now wanted still wants count : ℕ)
+    → Given old mid bytes rest before between wanted still → Appends mid new (take count rest) → behind ≡ drop count rest → now ≡ between → wants ≡ still
+    → Given old new bytes behind before now wanted wants
+given_more old mid new bytes rest behind before between now wanted still wants count given more is quiet enough = record {
   front = given.front ++ take count rest;
   parts =
       append_assoc given.front (take count rest) behind
@@ -41,6 +42,7 @@ given_more old mid new bytes rest behind before between now count given more is 
       ∙ given.parts;
   appended = Appends-trans old mid new given.front (take count rest) given.appended more;
   quiet = quiet ∙ given.quiet;
+  enough = enough ∙ given.enough;
 }
 
 -- what is left of a part of a list behind a front of it

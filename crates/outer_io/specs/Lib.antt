@@ -1,3 +1,4 @@
+pub mod Asking
 pub mod Content
 pub mod Documents
 pub mod Faults

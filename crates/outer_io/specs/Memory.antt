@@ -8,10 +8,11 @@ pub record Supply : Type 0 where
   pub left : List ℕ
   pub most : ℕ
 
--- A sink: the bytes that it was given, and how many a call gives it at most.
+-- A sink: the bytes that it was given, how many a call gives it at most, and how often memory was wanting.
 pub record Store : Type 0 where
   pub held : List ℕ
   pub most : ℕ
+  pub wants : ℕ
 
 -- A file: the bytes of its name, and its own.
 pub record Document : Type 0 where
@@ -51,7 +52,12 @@ pub record ScheduledStore : Type 0 where
   pub store : Store
   pub calls : Calls
 
--- Files, with the calls of them.
-pub record ScheduledDocuments : Type 0 where
+-- Files, with the names that were asked for.
+pub record Shelf : Type 0 where
   pub documents : List Document
+  pub asked : List (List ℕ)
+
+-- Files and the names that were asked for, with the calls of them.
+pub record ScheduledShelf : Type 0 where
+  pub shelf : Shelf
   pub calls : Calls

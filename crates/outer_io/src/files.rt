@@ -1,6 +1,7 @@
 //! Files that are read by their names.
 
-ghost use Rattle.std.specs.Prelude.{◌≡◌, ℕ, List, Option, IfSome};
+ghost use Rattle.std.specs.Prelude.{◌≡◌, ℕ, List, [], ◌∷◌, ◌++◌, Option, IfSome, OnOk};
+ghost use Rattle.outer_io.specs.Asking.{AsksFront};
 ghost use Rattle.outer_io.specs.Content.{IsWithin, Shows};
 ghost use Rattle.outer_io.specs.Faults.{HasCause};
 
@@ -39,12 +40,18 @@ pub trait Files {
     /// changes it.
     ghost faults: { Self → ℕ };
 
-    /// Reads a file of at most `limit` bytes.
+    /// The names that were asked for, in their order.
+    ghost asked: { Self → List (List ℕ) };
+
+    /// Reads a file of at most `limit` bytes. Its name is asked for, and no other one; where there is an error, it may be that it was
+    /// not asked for yet.
     ///
     /// Failed: a fault, which the count of faults shows. NoMemory: want of memory.
     fn read(&mut self, alloc: Global, name: &str, limit: u64) -> Result<Found, FileErr>
         ensures within { IsWithin limit result }
         ensures shown { IfSome (content self.old) (λ known. Shows (known name.now) limit result) }
         ensures kept { content self.new ≡ content self.old }
-        ensures cause { HasCause FileErr.Failed (faults self.old) (faults self.new) result };
+        ensures cause { HasCause FileErr.Failed (faults self.old) (faults self.new) result }
+        ensures asks { AsksFront (asked self.old) (asked self.new) (name.now ∷ []) }
+        ensures noted { OnOk result (asked self.new ≡ asked self.old ++ name.now ∷ []) };
 }

@@ -1,6 +1,7 @@
 //! What a program reads and writes: bytes from a source, bytes into a sink, and files by their names.
 #![tactic(auto)]
 
+mod asked;
 mod calls;
 mod files;
 mod intake;

@@ -15,6 +15,7 @@ use std::marker::Model;
 pub struct SureSink {
     bytes: Vec<u8>,
     most: usize,
+    wants: u64,
 }
 
 impl Model for SureSink {
@@ -23,7 +24,7 @@ impl Model for SureSink {
 
     ghost Value = { Store };
 
-    ghost view = { λ s. record { held = s.bytes.items; most = s.most } };
+    ghost view = { λ s. record { held = s.bytes.items; most = s.most; wants = s.wants } };
 
     ghost invariant = { λ s. 1 ≤ s.most };
 }
@@ -32,11 +33,12 @@ impl SureSink {
     /// A sink that holds nothing, and is given at most `most` bytes in a call.
     pub fn new(alloc: Global, most: usize) -> SureSink
         requires { 1 ≤ most }
-        ensures { result ≡ record { held = []; most = most } }
+        ensures { result ≡ record { held = []; most = most; wants = 0 } }
     {
         SureSink {
             bytes: Vec::new(alloc),
             most,
+            wants: 0,
         }
     }
 
@@ -53,11 +55,14 @@ impl Sink for SureSink {
 
     ghost faults = { λ _. 0 };
 
+    ghost wants = { λ s. s.wants };
+
     fn give(&mut self, bytes: &[u8]) -> Result<usize, SinkErr>
         ensures bound { IfOk result (λ count. count ≤ length bytes.now) }
         ensures progress { IfOk result (λ count. 0 < length bytes.now → 0 < count) }
         ensures bytes { WriteAppends (Some self.old.held) (Some self.new.held) result bytes.now }
         ensures cause { HasCause SinkErr.Failed 0 0 result }
+        ensures want { HasCause SinkErr.NoMemory self.old.wants self.new.wants result }
         ensures count { IfOk result (λ count. count ≡ min self.old.most (length bytes.now)) }
         ensures failed { IsOkUnless result SinkErr.NoMemory }
         ensures most { self.new.most ≡ self.old.most }
@@ -66,7 +71,10 @@ impl Sink for SureSink {
         let (front, _) = bytes.split_at(count);
         match self.bytes.extend_from_slice(front) {
             Ok(()) => Ok(count),
-            Err(_) => Err(SinkErr::NoMemory),
+            Err(_) => {
+                self.wants = self.wants.saturating_add(1);
+                Err(SinkErr::NoMemory)
+            }
         }
     }
 }
@@ -92,7 +100,7 @@ impl MemSink {
     /// numbers in `fails` fail.
     pub fn new(alloc: Global, most: usize, fails: Vec<u64>) -> MemSink
         requires { 1 ≤ most }
-        ensures { result ≡ record { store = record { held = []; most = most }; calls = uncalled fails.items } }
+        ensures { result ≡ record { store = record { held = []; most = most; wants = 0 }; calls = uncalled fails.items } }
     {
         MemSink {
             sure: SureSink::new(alloc, most),
@@ -113,11 +121,14 @@ impl Sink for MemSink {
 
     ghost faults = { λ s. s.calls.faults };
 
+    ghost wants = { λ s. s.store.wants };
+
     fn give(&mut self, bytes: &[u8]) -> Result<usize, SinkErr>
         ensures bound { IfOk result (λ count. count ≤ length bytes.now) }
         ensures progress { IfOk result (λ count. 0 < length bytes.now → 0 < count) }
         ensures bytes { WriteAppends (Some self.old.store.held) (Some self.new.store.held) result bytes.now }
         ensures cause { HasCause SinkErr.Failed self.old.calls.faults self.new.calls.faults result }
+        ensures want { HasCause SinkErr.NoMemory self.old.store.wants self.new.store.wants result }
         ensures failed { IsErrOf result SinkErr.Failed ↔ Contains self.old.calls.fails (number_of self.old.calls) }
         ensures count { IfOk result (λ count. count ≡ min self.old.store.most (length bytes.now)) }
         ensures most { self.new.store.most ≡ self.old.store.most }

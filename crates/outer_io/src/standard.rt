@@ -1,9 +1,10 @@
 //! The standard streams and the file system, as a source, a sink and files.
 
-ghost use Rattle.std.specs.Prelude.{◌≡◌, ◌↔◌, None, Some, IfSome, IsOk, IfOk, IfErr, IsTrue};
+ghost use Rattle.std.specs.Prelude.{◌≡◌, ◌↔◌, [], None, Some, IfSome, IsOk, IfOk, IfErr, IsTrue};
 ghost use Rattle.std.specs.IoError.{error_kind};
 ghost use Rattle.outer_io.specs.Content.{IsWithin, Shows};
 
+use crate::asked::Asked;
 use crate::files::{FileErr, Files, Found};
 use crate::sink::{Sink, SinkErr};
 use crate::source::{Failed, Source};
@@ -51,14 +52,19 @@ impl<R: Read> Source for StdSource<R> {
 pub struct StdSink<W> {
     writer: W,
     faults: u64,
+    wants: u64,
 }
 
 impl<W> StdSink<W> {
     /// A sink over a writer. Each of its errors is a fault, but want of memory.
     pub fn new(writer: W) -> StdSink<W>
-        ensures { result ≡ record { writer = writer; faults = 0 } }
+        ensures { result ≡ record { writer = writer; faults = 0; wants = 0 } }
     {
-        StdSink { writer, faults: 0 }
+        StdSink {
+            writer,
+            faults: 0,
+            wants: 0,
+        }
     }
 }
 
@@ -66,6 +72,8 @@ impl<W: Write> Sink for StdSink<W> {
     ghost held = { λ s. W.contents s.writer };
 
     ghost faults = { λ s. s.faults };
+
+    ghost wants = { λ s. s.wants };
 
     fn give(&mut self, bytes: &[u8]) -> Result<usize, SinkErr> {
         match self.writer.write(bytes) {
@@ -76,6 +84,7 @@ impl<W: Write> Sink for StdSink<W> {
             }
             Err(error) => {
                 if is_want_of_memory(&error) {
+                    self.wants = self.wants.saturating_add(1);
                     return Err(SinkErr::NoMemory);
                 }
                 self.faults = self.faults.saturating_add(1);
@@ -90,15 +99,20 @@ impl<W: Write> Sink for StdSink<W> {
 pub struct StdFiles<S> {
     system: S,
     faults: u64,
+    asked: Asked,
 }
 
 impl<S> StdFiles<S> {
     /// The files of a file system. Each of its errors is a fault, but that there is no such
     /// file and want of memory.
-    pub fn new(system: S) -> StdFiles<S>
-        ensures { result ≡ record { system = system; faults = 0 } }
+    pub fn new(alloc: Global, system: S) -> StdFiles<S>
+        ensures { result ≡ record { system = system; faults = 0; asked = [] } }
     {
-        StdFiles { system, faults: 0 }
+        StdFiles {
+            system,
+            faults: 0,
+            asked: Asked::new(alloc),
+        }
     }
 }
 
@@ -107,7 +121,12 @@ impl<S: rt::Files> Files for StdFiles<S> {
 
     ghost faults = { λ s. s.faults };
 
+    ghost asked = { λ s. s.asked };
+
     fn read(&mut self, alloc: Global, name: &str, limit: u64) -> Result<Found, FileErr> {
+        if self.asked.note(name).is_err() {
+            return Err(FileErr::NoMemory);
+        }
         let answer = match File::open(&self.system, name) {
             Ok(file) => read_within(alloc, file, limit),
             Err(error) => absent_or(error),

@@ -4,10 +4,12 @@ ghost use Rattle.std.specs.Prelude.{◌≡◌, ◌≢◌, ◌↔◌, ◌⊎◌, 
 ghost use Rattle.std.specs.Io.KnownBytes.{IsAtEnd};
 ghost use Rattle.outer_io.specs.Faults.{next_count};
 ghost use Rattle.job_commands.specs.Codes.{ScriptCodes};
+ghost use Rattle.command_parts.specs.Asking.{AsksBy};
 ghost use Rattle.command_parts.specs.Before.{EndsBefore};
 ghost use Rattle.command_parts.specs.DeliversOver.{DeliversOver};
 ghost use Rattle.command_parts.specs.Reports.{IsQuiet, Reports};
 ghost use Rattle.job_commands.specs.Documents.{LeavesInput};
+ghost use Rattle.painless.specs.Asked.{asked_named, asked_of};
 ghost use Rattle.painless.specs.Whole.{AreCodes, AreCodesNamed, IsCallOf, PastNamed, TakesPast, Tells, TellsNamed, TellsTaken, TellsTakenNamed, call_of};
 ghost use Rattle.painless.specs.declared.words.Command.TheVariants as c;
 
@@ -58,6 +60,9 @@ pub fn painless<F: Files, S: Source, K: Sink>(
     ensures untouched { (IsCallOf c.Run (call_of (map string_bytes words.now)) → LeavesInput result.status) → input.new ≡ input.old }
     // No command changes a file.
     ensures contents { F.content files.new ≡ F.content files.old }
+    // The names of files that were asked for are a front of those of the words: the command's file, and behind it the allowlist, where
+    // its job names one.
+    ensures asked { AsksBy (F.content files.old) (F.asked files.old) (F.asked files.new) (asked_of (map string_bytes words.now)) }
     // With every status but 0 and 1 there is no listing, and nothing is counted.
     ensures quiet { result.status ≢ Status.Done → result.status ≢ Status.SomeErrors → IsQuiet result }
 {
@@ -91,6 +96,7 @@ fn called<F: Files, S: Source, K: Sink>(
     ensures ended { command ≡ c.Run → (result.status ≡ Status.Done) ⊎ (result.status ≡ Status.SomeErrors) → IsAtEnd (S.left input.new) }
     ensures untouched { (command ≡ c.Run → LeavesInput result.status) → input.new ≡ input.old }
     ensures contents { F.content files.new ≡ F.content files.old }
+    ensures asked { AsksBy (F.content files.old) (F.asked files.old) (F.asked files.new) (asked_named command name.now) }
 {
     match command {
         Command::Eval => eval(alloc, name, files, out),

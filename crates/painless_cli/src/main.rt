@@ -27,7 +27,7 @@ fn main(rt: HostRuntime) -> ExitCode {
         }
         Err(_) => return ExitCode::from(Status::Usage.exit_status()),
     };
-    let mut files = StdFiles::new(&rt);
+    let mut files = StdFiles::new(rt.alloc(), &rt);
     let mut input = StdSource::new(rt.reader());
     let mut out = StdSink::new(io::writer(&rt));
     let report = painless(

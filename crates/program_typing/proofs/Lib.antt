@@ -9,4 +9,5 @@ pub mod Scopes
 pub mod Never
 pub mod Enough
 -- Lemmas of the libraries below, passed on.
+pub use Rattle.source_meaning.proofs.Due
 pub use Rattle.source_meaning.proofs.Greater

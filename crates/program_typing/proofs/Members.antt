@@ -23,7 +23,7 @@ use Rattle.source_meaning.specs.ContainerCallsTypes.{primitive_in, primitive_of,
 use Rattle.source_meaning.specs.MemberCallsTypes.{ActGives}
 use Rattle.source_meaning.proofs.Doing.{built_act}
 use Rattle.source_meaning.proofs.Types.{act_gives}
-use Rattle.source_meaning.specs.Operating.{in_box}
+use Rattle.source_meaning.specs.Operating.{in_box, passed_result_layer}
 use Rattle.source_meaning.specs.Members.{passed_layer, passed, before, passed_all, Sending, Unsent, OnNull, Sends, sends, sends_to, sent_by, sent}
 use Rattle.program_typing.specs.Types.{HasPrimitive, HasLayer, HaveAll}
 use Rattle.program_typing.specs.Agreeing.{is_primitive_layer, TakesTypes}
@@ -51,6 +51,28 @@ passed_there Ty-F.Def value h = tt
 passed_there (Ty-F.Prim p) value h = box_there p value h
 passed_there (Ty-F.Class class) value h = tt
 passed_there (Ty-F.Array of) value h = tt
+
+-- what was given is of a type
+abbrev pub GivenHas : Ty-F Ty → Option Value → Type 0
+GivenHas l None = ⊥
+GivenHas l (Some value) = HasLayer l value
+
+box_has : (p : Primitive) (value : Value) → HasPrimitive p value → GivenHas (Ty-F.Prim p) (in_box p value)
+box_has prim.Boolean value h = subst (λ value. GivenHas (Ty-F.Prim prim.Boolean) (in_box prim.Boolean value)) (sym h.1) (h.0, refl)
+box_has prim.Byte value h = subst (λ value. GivenHas (Ty-F.Prim prim.Byte) (in_box prim.Byte value)) (sym h.1) (_, refl)
+box_has prim.Short value h = subst (λ value. GivenHas (Ty-F.Prim prim.Short) (in_box prim.Short value)) (sym h.1) (_, refl)
+box_has prim.Char value h = subst (λ value. GivenHas (Ty-F.Prim prim.Char) (in_box prim.Char value)) (sym h.1) (_, refl)
+box_has prim.Int value h = subst (λ value. GivenHas (Ty-F.Prim prim.Int) (in_box prim.Int value)) (sym h.1) (h.0, refl)
+box_has prim.Long value h = subst (λ value. GivenHas (Ty-F.Prim prim.Long) (in_box prim.Long value)) (sym h.1) (h.0, refl)
+
+-- what a function gives, as casts take it
+pub result_has : (l : Ty-F Ty) (value : Value) → HasLayer l value → GivenHas l (passed_result_layer l value)
+result_has Ty-F.Void value h = tt
+result_has Ty-F.Null value h = tt
+result_has Ty-F.Def value h = tt
+result_has (Ty-F.Prim p) value h = box_has p value h
+result_has (Ty-F.Class class) value h = tt
+result_has (Ty-F.Array of) value h = tt
 
 pub both_there : (first : Option Value) (rest : Option (List Value)) → IsThere first → IsThere rest → IsThere (before first rest)
 both_there None rest x y = absurd x

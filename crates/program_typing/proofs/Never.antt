@@ -29,16 +29,19 @@ use Rattle.typed_tree.specs.declared.operation.Target.TheVariants as target
 use Rattle.typed_tree.specs.declared.operation.Change.{Change}
 use Rattle.typed_tree.specs.declared.operation.Gives.{Gives}
 use Rattle.typed_tree.specs.declared.operation.Gives.TheVariants as gives
+use Rattle.number_ops.specs.Casts.{cast_at_run_time}
 use Rattle.number_ops.specs.Operators.{is_null}
+use Rattle.number_ops.specs.Outcomes as outcomes
 use Rattle.number_ops.specs.Relations.{thrown}
 use Rattle.source_meaning.specs.Calls.{suits_member}
 use Rattle.source_meaning.specs.World.{World, Limits, Loop, Depth, Ticks, acts_in, Counted, Counts, Passes, pay_tick, allowed_in, has_loop_limit, take_turn, goes_deeper, enter, reach, reaches, pay_member}
 use Rattle.source_meaning.specs.MemberCallsMembers.{is_built, does}
 use Rattle.source_meaning.specs.Access.{Access, Calls as Finds, Acts as Does, index_read, index_written, name_read, name_written, method_called}
 use Rattle.source_meaning.specs.Tree.{Name, Expr, Literal, Quoted, Local, Apply, Guarded, Logic, Conditional, Elvis, Assign, Modify, Lambda, Reference, NewReference, Exprs, None', One, Maybe, Missing, Given as Present, Stmt, Do, If, While, DoWhile, Try, Block, Break, Continue, Return, Throw, Stmts, Finish, Then, Declare, Catches, NoCatch, Catch, Variable, Fun, Programs, functions_in, type_of}
-use Rattle.source_meaning.specs.Operating.{Operated, Meaningless, Gives as Gives_it, Acts}
+use Rattle.source_meaning.specs.Operating.{Operated, Meaningless, Gives as Gives_it, Acts, passed_result}
 use Rattle.source_meaning.specs.Members.{Sending, Unsent, OnNull, Sends, Reads, sent}
-use Rattle.source_meaning.specs.Meaning.{State, Env, Place, Out, Done, Thrown, Over, More, Flow, Normal, Broke, Continued, Returned, bind, leave, found, effect, operated, choose, given_by, goes_next, goes_again, is_of_class, back, Meaning, entered, called, acted, paid, tested, member_called, member_applied, of_member, accessed, method_applied, name_applied, name_put, index_applied, index_put, applied, logic, changed, modified, written, modified_at, expr_of, exprs_of, value_if, turned, done_turn, caught, handled, stmt_of, value_or, stmts_of, layer, meaning}
+use Rattle.source_meaning.specs.Meaning.{State, Env, Place, Out, Done, Thrown, Over, More, Flow, Normal, Broke, Continued, Returned, bind, leave, found, effect, operated, choose, given_by, goes_next, goes_again, is_of_class, back, cast_each, casts_due, Meaning, entered, called, acted, paid, tested, member_called, member_applied, of_member, accessed, method_applied, name_applied, name_put, index_applied, index_put, applied, logic, changed, modified, written, modified_at, expr_of, exprs_of, value_if, turned, done_turn, caught, handled, stmt_of, value_or, stmts_of, layer, meaning}
+use Rattle.source_meaning.proofs.Due.{DueOf, last_type, due_type}
 use Rattle.program_typing.specs.Types.{Has, HaveAll, TakesReference, TakesReferences, PutsElement}
 use Rattle.program_typing.specs.Agreeing.{Scope, IsVariable, boolean, types_of, Calls, MemberAgrees, FindsMethod, Applies, Changes, Writes, Reads as IsReadBy, ExprAgrees, ExprsAgree, TestAgrees, UpdateAgrees, BeginAgrees, ReturnAgrees, StmtAgrees, StmtsAgree, CatchesAgree, scope_of, FunAgrees, WellFormed, known_in}
 use Rattle.program_typing.specs.Enough.{expr_size, exprs_size, maybe_size, stmt_size, stmts_size, catches_size}
@@ -46,8 +49,8 @@ use Rattle.program_typing.proofs.Values.{has_flag, nothing_has, is_flag, text_ha
 use Rattle.program_typing.proofs.Accesses.{IsOfBuilt, index_read_built, index_written_built, name_read_built, name_written_built, method_called_built}
 use Rattle.program_typing.proofs.Containers.{writes_act, takes_to_fit}
 use Rattle.program_typing.proofs.Defs.{def_effect}
-use Rattle.program_typing.proofs.Effects.{EffectHas, OperatedHas, IsActs, null_throws, wrong_throws}
-use Rattle.program_typing.proofs.Members.{IsSent, is_sent, Comes, member_comes, def_comes, null_has}
+use Rattle.program_typing.proofs.Effects.{EffectHas, OperatedHas, IsActs, null_throws, wrong_throws, cast_has}
+use Rattle.program_typing.proofs.Members.{GivenHas, result_has, IsSent, is_sent, Comes, member_comes, def_comes, null_has}
 use Rattle.program_typing.proofs.Operations.{takes_fit, casts_fit, begins_fit}
 use Rattle.program_typing.proofs.Scopes.{Bound, reads, writes, leaves, enters}
 
@@ -176,6 +179,23 @@ backs of inner g k turns e (Thrown id s' e') b x = (b, x.1)
 backs of inner g k turns e (Over limit w) b x = tt
 backs of inner g k turns e More b x = absurd x
 
+-- the casts that are due of what a function gives
+given_ends : (of : Ty) (g : Scope) (s : State) (e : Env) (o : Option Value) → GivenHas (out-Ty of) o → Bound g e → Ends (Has of) g s.world.ticks (found o s e)
+given_ends of g s e None x b = absurd x
+given_ends of g s e (Some value) x b = done x b (omega arith)
+
+each_ends : (of : Ty) (tos : List Ty) (value : Value) (g : Scope) (s : State) (e : Env) → Has of value → Bound g e → Ends (Has (last_type of tos)) g s.world.ticks (cast_each tos value s e)
+each_ends of [] value g s e h b = done h b (omega arith)
+each_ends of (to ∷ tos) value g s e h b =
+    then' (acts_end to g s e (outcomes.effect s.world.store (cast_at_run_time s.world.store.objects value to false)) (cast_has to s.world.store value false) b)
+    (λ value s e h b k. each_ends to tos value g s e h b)
+
+due_ends : (of : Ty) (due : List Ty) (value : Value) (g : Scope) (s : State) (e : Env) → DueOf of due → Has of value → Bound g e → Ends (Has (due_type of due)) g s.world.ticks (casts_due due value s e)
+due_ends of [] value g s e x h b = done h b (omega arith)
+due_ends of (from ∷ tos) value g s e x h b =
+    then' (given_ends from g s e (passed_result from value) (result_has (out-Ty from) value (subst (λ of. Has of value) (sym x) h)) b)
+    (λ value s e h b k. each_ends from tos value g s e h b)
+
 -- what is counted has cost a tick
 abbrev Costs : Counted → ℕ → Type 0
 Costs (Counts w) k = suc w.ticks ≤ k
@@ -238,24 +258,29 @@ module _ (funs : Programs) (limits : Limits) (formed : (text : Owner) → WellFo
   module _ (n : ℕ) (m : Meaning) (ih : Good n m) where
     -- ---- calls
 
-    entered_ends : (c : Counted) (d : Place) (s : State) (e : Env) (g : Scope) (f : Fun) (o : Option Env) (args : Env) → Costs c s.world.ticks → o ≡ Some args
-        → Bound (scope_of f.params []) args → FunAgrees (known_in funs limits d.text) f → stmts_size f.body ≤ most → Bound g e → cost s.world.ticks ≤ n
-        → Ends (Has f.result) g s.world.ticks (entered funs limits m c d s e f.result f.body o)
-    entered_ends (Passes limit w') d s e g f o args c is inner x size b h =
-        subst (λ o. Ends (Has f.result) g s.world.ticks (entered funs limits m (Passes limit w') d s e f.result f.body o)) (sym is) (record { by = tt })
-    entered_ends (Counts w) d s e g f o args c is inner x size b h =
+    entered_ends : (c : Counted) (text : Owner) (due : List Ty) (d : Place) (s : State) (e : Env) (g : Scope) (f : Fun) (o : Option Env) (args : Env) → Costs c s.world.ticks → o ≡ Some args
+        → Bound (scope_of f.params []) args → FunAgrees (known_in funs limits text) f → stmts_size f.body ≤ most → DueOf f.result due → Bound g e → cost s.world.ticks ≤ n
+        → Ends (Has (due_type f.result due)) g s.world.ticks (entered funs limits m c text due d s e f.result f.body o)
+    entered_ends (Passes limit w') text due d s e g f o args c is inner x size dues b h =
+        subst (λ o. Ends (Has (due_type f.result due)) g s.world.ticks (entered funs limits m (Passes limit w') text due d s e f.result f.body o)) (sym is) (record { by = tt })
+    entered_ends (Counts w) text due d s e g f o args c is inner x size dues b h =
         let spent = spends w.ticks s.world.ticks c in
-        let ran = ih.stmts f.body (record { text = d.text; depth = suc d.depth }) (record { world = w; turns = 0 }) args (scope_of f.params []) f.result false x.body inner (omega (arith, spent, size, h)) in
-        subst (λ o. Ends (Has f.result) g s.world.ticks (entered funs limits m (Counts w) d s e f.result f.body o)) (sym is)
-        (within (omega (arith, c)) (record { by = backs f.result (scope_of f.params []) g w.ticks s.turns e _ b ran.by }))
+        let ran = ih.stmts f.body (record { text = text; depth = suc d.depth }) (record { world = w; turns = 0 }) args (scope_of f.params []) f.result false x.body inner (omega (arith, spent, size, h)) in
+        let gives : Ends (Has f.result) g w.ticks (back f.result (m.stmts (record { text = text; depth = suc d.depth }) (record { world = w; turns = 0 }) args f.body) s.turns e) =
+        record { by = backs f.result (scope_of f.params []) g w.ticks s.turns e _ b ran.by } in
+        subst (λ o. Ends (Has (due_type f.result due)) g s.world.ticks (entered funs limits m (Counts w) text due d s e f.result f.body o)) (sym is)
+        (within (omega (arith, c)) (then' gives (λ value s e h b k. due_ends f.result due value g s e dues h b)))
 
-    called_ends : (number : ℕ) (ofs : List Ty) (of : Ty) (values : List Value) (d : Place) (s : State) (e : Env) (g : Scope) → Calls (known_in funs limits d.text) number ofs of → HaveAll ofs values → Bound g e
-        → cost s.world.ticks ≤ n → Ends (Has of) g s.world.ticks (called funs limits m (slice_get (functions_in funs d.text) number) d s e values)
-    called_ends number ofs of values d s e g x h b c =
+    -- a function of a text, with values of its parameters' types
+    called_ends : (number : ℕ) (counted : Counted) (text : Owner) (due ofs : List Ty) (of : Ty) (values : List Value) (d : Place) (s : State) (e : Env) (g : Scope)
+        → Calls (known_in funs limits text) number ofs of → Costs counted s.world.ticks → DueOf of due → HaveAll ofs values → Bound g e → cost s.world.ticks ≤ n
+        → Ends (Has (due_type of due)) g s.world.ticks (called funs limits m (slice_get (functions_in funs text) number) counted text due d s e values)
+    called_ends number counted text due ofs of values d s e g x costs dues h b c =
         let args = enters x.fun.params values [] [] (subst (λ ofs. HaveAll ofs values) x.takes h) tt in
-        subst (λ o. Ends (Has of) g s.world.ticks (called funs limits m o d s e values)) (sym x.is)
-        (subst (λ of. Ends (Has of) g s.world.ticks (called funs limits m (Some x.fun) d s e values)) (sym x.gives)
-        (entered_ends (enter limits d.depth s.world) d s e g x.fun _ args.env (call_costs limits d.depth s.world) args.is args.bound ((formed d.text).each number x.fun x.is) (holds d.text number x.fun x.is) b c))
+        subst (λ o. Ends (Has (due_type of due)) g s.world.ticks (called funs limits m o counted text due d s e values)) (sym x.is)
+        (subst (λ of. Ends (Has (due_type of due)) g s.world.ticks (called funs limits m (Some x.fun) counted text due d s e values)) (sym x.gives)
+        (entered_ends counted text due d s e g x.fun _ args.env costs args.is args.bound ((formed text).each number x.fun x.is) (holds text number x.fun x.is)
+        (subst (λ of. DueOf of due) x.gives dues) b c))
 
     -- ---- members
 
@@ -263,7 +288,7 @@ module _ (funs : Programs) (limits : Limits) (formed : (text : Owner) → WellFo
     acted_ends of g s e o x b = subst (λ o. Ends (Has of) g s.world.ticks (acted funs limits m o s e)) (sym x.is) (acts_end of g s e x.effect x.has b)
 
     paid_ends : (c : Counted) (number : ℕ) (arguments : List Value) (of : Ty) (s : State) (e : Env) (g : Scope) → Costs c s.world.ticks
-        → ((store : Store) → Comes of (does limits.host number arguments store)) → Bound g e → Ends (Has of) g s.world.ticks (paid funs limits m c number arguments s e)
+        → ((store : Store) → Comes of (does limits.ground.host number arguments store)) → Bound g e → Ends (Has of) g s.world.ticks (paid funs limits m c number arguments s e)
     paid_ends (Passes limit w') number arguments of s e g c x b = record { by = tt }
     paid_ends (Counts w) number arguments of s e g c x b = within (omega (arith, c)) (acted_ends of g (record { world = w; turns = s.turns }) e _ (x w.store) b)
 
@@ -271,14 +296,14 @@ module _ (funs : Programs) (limits : Limits) (formed : (text : Owner) → WellFo
         → Bound g e → Ends (Has member.result) g s.world.ticks (tested funs limits m suits number arguments d s e)
     tested_ends false number member arguments d s e g is built b = acts_end member.result g s e _ (wrong_throws member.result s.world.store) b
     tested_ends true number member arguments d s e g is built b =
-        paid_ends (pay_member d.text number s.world) number arguments member.result s e g (member_costs d.text number s.world) (λ store. member_comes limits.host number member arguments store is built) b
+        paid_ends (pay_member d.text number s.world) number arguments member.result s e g (member_costs d.text number s.world) (λ store. member_comes limits.ground.host number member arguments store is built) b
 
     sending_ends : (x : Sending) (number : ℕ) (member : MemberType) (d : Place) (s : State) (e : Env) (g : Scope) → slice_get catalogue number ≡ Some member → is_built number ≡ true
         → IsSent x → Bound g e → Ends (Has member.result) g s.world.ticks (member_called funs limits m x number member d s e)
     sending_ends Unsent number member d s e g is built x b = absurd x
     sending_ends OnNull number member d s e g is built x b = acts_end member.result g s e _ (null_throws member.result s.world.store) b
     sending_ends (Sends arguments) number member d s e g is built x b = tested_ends (suits_member s.world.store.objects member arguments) number member arguments d s e g is built b
-    sending_ends Reads number member d s e g is built x b = acted_ends member.result g s e _ (member_comes limits.host number member [] s.world.store is built) b
+    sending_ends Reads number member d s e g is built x b = acted_ends member.result g s e _ (member_comes limits.ground.host number member [] s.world.store is built) b
 
     member_ends : (sort : MemberKind) (c : Member) (ofs : List Ty) (of : Ty) (values : List Value) (d : Place) (s : State) (e : Env) (g : Scope) → MemberAgrees (known_in funs limits d.text) sort c ofs of → HaveAll ofs values
         → Bound g e → Ends (Has of) g s.world.ticks (of_member funs limits m c values d s e)
@@ -293,7 +318,7 @@ module _ (funs : Programs) (limits : Limits) (formed : (text : Owner) → WellFo
 
     accessed_ends : (a : Access) (d : Place) (s : State) (e : Env) (g : Scope) → IsOfBuilt a → Bound g e → Ends (Has t.Def) g s.world.ticks (accessed funs limits m a d s e)
     accessed_ends (Finds number arguments) d s e g x b =
-        paid_ends (pay_member d.text number s.world) number arguments t.Def s e g (member_costs d.text number s.world) (λ store. def_comes limits.host number arguments store x) b
+        paid_ends (pay_member d.text number s.world) number arguments t.Def s e g (member_costs d.text number s.world) (λ store. def_comes limits.ground.host number arguments store x) b
     accessed_ends (Does given) d s e g x b = acts_end t.Def g s e given (def_effect t.Def given refl) b
 
     methods_end : (name : Name) (ofs : List Ty) (values : List Value) (d : Place) (s : State) (e : Env) (g : Scope) → FindsMethod ofs → HaveAll ofs values → Bound g e
@@ -358,7 +383,7 @@ module _ (funs : Programs) (limits : Limits) (formed : (text : Owner) → WellFo
     applied_ends (operation.Cast k) (from ∷ []) of (value ∷ []) d s e g x h b c = operated_ends of g s e _ (casts_fit k from of value s.world.store x h.0) b
     applied_ends (operation.Cast k) (from ∷ []) of (value ∷ other ∷ values) d s e g x h b c = absurd h.1
     applied_ends (operation.Cast k) (from ∷ other ∷ ofs) of values d s e g x h b c = absurd x
-    applied_ends (operation.Function number) ofs of values d s e g x h b c = called_ends number ofs of values d s e g x h b c
+    applied_ends (operation.Function number) ofs of values d s e g x h b c = called_ends number (enter limits d.depth s.world) d.text [] ofs of values d s e g x (call_costs limits d.depth s.world) tt h b c
     applied_ends (operation.InstanceOf to) [] of values d s e g x h b c = absurd x
     applied_ends (operation.InstanceOf to) (from ∷ []) of [] d s e g x h b c = absurd h
     applied_ends (operation.InstanceOf to) (from ∷ []) of (value ∷ []) d s e g x h b c = done (has_flag of _ x.2) b (omega arith)

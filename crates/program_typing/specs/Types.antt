@@ -36,7 +36,7 @@ abbrev pub HasLayer : Ty-F Ty → Value → Type 0
 HasLayer (Ty-F.Prim p) value = HasPrimitive p value
 HasLayer other value = Unit {0}
 
--- A value is of a type. Of references nothing is asked yet, since no built construct looks into them.
+-- A value is of a type. Of references nothing is asked: what looks into one says of every value what comes of it.
 abbrev pub Has : Ty → Value → Type 0
 Has of value = HasLayer (out-Ty of) value
 

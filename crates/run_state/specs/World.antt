@@ -2,7 +2,7 @@
 -- script and the meaning of its code share this page and nothing else but what operators, casts and members come to.
 use Rattle.std.specs.Prelude.{ℕ, ◌-◌, ◌==◌, ◌++◌, ◌||◌, Bool, true, false, not, List, [], ◌∷◌, nat_lt, if◌then◌else◌}
 use Rattle.std.specs.List.{list_any}
-use Rattle.pl_types.specs.Host.{HostMeaning}
+use Rattle.pl_types.specs.Host.{HostMeaning, no_host}
 use Rattle.allowlist.specs.Allow.{AllowList}
 use Rattle.object_values.specs.declared.object.Owner.{Owner}
 use Rattle.object_values.specs.declared.object.Owner.TheVariants.{Script, Prelude}
@@ -24,12 +24,8 @@ with_store w store = record { store = store; ticks = w.ticks; reached = w.reache
 pub data Limit : Type 0 where
   Loop Depth Ticks Room : Limit
 
--- What a run is bound by, which stays the same throughout.
-pub record Limits : Type 0 where
-  -- turns of one frame
-  pub loop : ℕ
-  -- frames on top of one another
-  pub depth : ℕ
+-- What a run stands on.
+pub record Ground : Type 0 where
   -- the members that the script's text may call
   pub allowed : AllowList
   -- the members that the prelude's text may call
@@ -37,10 +33,26 @@ pub record Limits : Type 0 where
   -- what the functions of the host give
   pub host : HostMeaning
 
+-- What a run is bound by and stands on, which stays the same throughout.
+pub record Limits : Type 0 where
+  -- turns of one frame
+  pub loop : ℕ
+  -- frames on top of one another
+  pub depth : ℕ
+  pub ground : Ground
+
+-- What the runs of a script stand on whose text may call these members: the prelude's calls nothing yet, and there is no host.
+abbrev pub ground_of : AllowList → Ground
+ground_of allow = record { allowed = allow; prelude_allowed = record { classes = []; members = [] }; host = no_host }
+
+-- the limits of a run of a script with such a list: turns of a frame, and frames on top of one another
+abbrev pub limits_for : ℕ → ℕ → AllowList → Limits
+limits_for loop depth allow = record { loop = loop; depth = depth; ground = ground_of allow }
+
 -- the members that a text may call
 abbrev pub allowed_in : Limits → Owner → AllowList
-allowed_in limits Script = limits.allowed
-allowed_in limits Prelude = limits.prelude_allowed
+allowed_in limits Script = limits.ground.allowed
+allowed_in limits Prelude = limits.ground.prelude_allowed
 
 -- the frames of the prelude's text have no limit of turns
 abbrev pub has_loop_limit : Owner → Bool

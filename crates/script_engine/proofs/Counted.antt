@@ -1,22 +1,27 @@
 -- Which instructions of a run are counted, and that they are counted in one way.
-use Rattle.std.proofs.Common.{◌≡◌, ℕ, zero, suc, ◌+◌, List, Option, Some, refl, sym, ap, ◌∙◌, arith}
+use Rattle.std.specs.Prelude.{slice_get}
+use Rattle.std.proofs.Common.{◌≡◌, ◌≤◌, ℕ, zero, suc, ◌+◌, List, Option, Some, None, refl, sym, ap, ◌∙◌, arith}
 use Rattle.pl_types.specs.declared.ty.Ty.{Ty}
 use Rattle.object_values.specs.declared.value.Value.{Value}
 use Rattle.object_heap.specs.Store.{Store}
 use Rattle.object_heap.specs.declared.outcome.Outcome.{Outcome}
+use Rattle.pl_code.specs.declared.code.FunCode.{FunCode}
 use Rattle.compiled_outcome.specs.World as run
-use Rattle.compiled_outcome.specs.World.{End, Result, Uncaught, Limited}
+use Rattle.compiled_outcome.specs.World.{World, End, Result, Uncaught, Limited}
+use Rattle.compiled_runs.specs.Bounds.{most_steps}
 use Rattle.verified_machine.specs.code_meaning_declared.word.Word.{Word}
-use Rattle.verified_machine.specs.Machine.{Codes, Next, Goes, Ends, Stuck, step, after}
+use Rattle.verified_machine.specs.Machine.{Codes, Next, Goes, Ends, Stuck, start_at, step, after}
 use Rattle.verified_machine.specs.machine_declared.configuration.Limits.{Limits}
 use Rattle.verified_machine.specs.Seen.{limits_of, codes_alone}
 use Rattle.verified_machine.specs.Runs.{steps_taken}
 use Rattle.verified_machine.specs.Activations.{counted}
 use Rattle.verified_machine.specs.Tasks.{ending, most_left, outcome_of, outcome_in, rest_from}
 use Rattle.script_engine.specs.declared.compiling.Script.{Script}
-use Rattle.script_engine.specs.Codes.{Counts, begins}
+use Rattle.script_engine.specs.Codes.{Counts, begins, functions_in, prelude_code, script_codes}
 use Rattle.script_engine.specs.Laws.{CodesCountOnce, ListedCodesCount}
-use Rattle.script_engine.specs.Running.{LeftOf, Comes, begun, world_at}
+use Rattle.script_engine.specs.Running.{LeftOf, Comes, begun, params_of, words_in, world_at}
+use Rattle.script_engine.proofs.Beside.{as_many_taken, starts_in_script}
+use Rattle.verified_machine.proofs.Beside.{runs_alike}
 
 -- ---- once
 
@@ -36,14 +41,14 @@ module _ (codes : Codes) (limits : run.Limits) where
   same_taken (suc m) (suc n) Stuck e f a b = refl
 
 pub codes_count_once : CodesCountOnce
-codes_count_once code limits args w a b x y =
+codes_count_once codes limits args w a b x y =
     let same : x.steps ≡ y.steps =
-    x.ends.taken ∙ same_taken (codes_alone code.functions) limits x.ends.bound y.ends.bound (begins code args w) x.last y.last x.ends.ends y.ends.ends ∙ sym y.ends.taken in
+    x.ends.taken ∙ same_taken (functions_in codes) limits x.ends.bound y.ends.bound (begins codes args w) x.last y.last x.ends.ends y.ends.ends ∙ sym y.ends.taken in
     x.is ∙ ap counted same ∙ sym y.is
 
--- a code that may be listed ends, and so it is counted
+-- codes that may be listed end, and so they are counted
 pub listed_codes_count : ListedCodesCount
-listed_codes_count allow context p code listed limits store args have =
+listed_codes_count allow context p prelude codes listed limits store args have =
     let ran = listed.runs limits store args have in
     (counted ran.steps, record { last = ran.last; steps = ran.steps; ends = ran.code_ends; is = refl })
 
@@ -69,14 +74,64 @@ module _ (of : Ty) (ticks steps : ℕ) (o : Outcome) where
 zero_add : (n : ℕ) → 0 + n ≡ n
 zero_add n = omega arith
 
--- the steps of an outcome are those of its script's code
+-- the steps of an outcome are those of its script's code beside the prelude's
 pub ending_counts : (script : Script) (store : Store) (args : List Value) (limits : Limits) (o : Outcome) → Comes script.result (ending (begun script store args limits)) o
-    → Counts script.executable.code (limits_of limits script.executable.allow) args (world_at store limits) o.steps
+    → Counts (script_codes script) (limits_of limits script.executable.allow) args (world_at store limits) o.steps
 ending_counts script store args limits o comes =
     let functions = script.executable.code.functions in
     let kept = limits_of limits script.executable.allow in
-    let from = begins script.executable.code args (world_at store limits) in
+    let from = begins (script_codes script) args (world_at store limits) in
+    let here = starts_in_script functions prelude_code.functions (words_in (params_of (slice_get functions 0)) args) (world_at store limits) in
     let bound = most_left functions kept from in
     let taken = steps_taken (codes_alone functions) kept bound from in
     let stops = stops_after script.result limits.ticks (counted (0 + rest_from functions kept (Some from))) o (after (codes_alone functions) kept bound from) comes in
-    record { last = stops.last; steps = taken; ends = record { bound = bound; ends = stops.ends; taken = refl }; is = stops.after ∙ ap counted (zero_add taken) }
+    record {
+      last = stops.last;
+      steps = taken;
+      ends = record {
+        bound = bound;
+        ends = runs_alike functions prelude_code.functions kept from bound here ∙ stops.ends;
+        taken = sym (as_many_taken functions prelude_code.functions kept bound from here);
+      };
+      is = stops.after ∙ ap counted (zero_add taken);
+    }
+
+-- ---- within a bound
+
+one_more : (a b : ℕ) → a ≤ b → suc a ≤ suc b
+one_more a b h = omega arith
+
+none_of : (n : ℕ) → 0 ≤ n
+none_of n = omega arith
+
+all_of : (n : ℕ) → n ≤ n
+all_of n = omega arith
+
+-- no more steps are taken than may be
+taken_most : (codes : Codes) (limits : run.Limits) (most : ℕ) (from : Next) → steps_taken codes limits most from ≤ most
+taken_most codes limits zero from = omega arith
+taken_most codes limits (suc n) (Goes c) = one_more (steps_taken codes limits n (step codes limits c)) n (taken_most codes limits n (step codes limits c))
+taken_most codes limits (suc n) (Ends r) = omega arith
+taken_most codes limits (suc n) Stuck = omega arith
+
+started_most : (functions : List FunCode) (limits : run.Limits) (main : Option FunCode) (words : List Word) (w : World)
+    → most_left functions limits (start_at main words w) ≤ most_steps functions limits w.ticks
+started_most functions limits None words w = none_of (most_steps functions limits w.ticks)
+started_most functions limits (Some f) words w = all_of (most_steps functions limits w.ticks)
+
+counted_within : (steps taken bound most : ℕ) → steps ≡ counted taken → taken ≤ bound → bound ≤ most → steps ≤ most
+counted_within steps taken bound most is h k = omega (arith, is, h, k)
+
+-- the steps of an outcome are within the bound of its script's code
+pub ending_bounded : (script : Script) (store : Store) (args : List Value) (limits : Limits) (o : Outcome) → Comes script.result (ending (begun script store args limits)) o
+    → o.steps ≤ most_steps script.executable.code.functions (limits_of limits script.executable.allow) limits.ticks
+ending_bounded script store args limits o comes =
+    let functions = script.executable.code.functions in
+    let kept = limits_of limits script.executable.allow in
+    let words = words_in (params_of (slice_get functions 0)) args in
+    let from = begins (script_codes script) args (world_at store limits) in
+    let bound = most_left functions kept from in
+    let taken = steps_taken (codes_alone functions) kept bound from in
+    let stops = stops_after script.result limits.ticks (counted (0 + rest_from functions kept (Some from))) o (after (codes_alone functions) kept bound from) comes in
+    counted_within o.steps taken bound (most_steps functions kept limits.ticks) (stops.after ∙ ap counted (zero_add taken)) (taken_most (codes_alone functions) kept bound from)
+    (started_most functions kept (slice_get functions 0) words (world_at store limits))

@@ -41,7 +41,7 @@ use Rattle.verified_machine.specs.Activations.{Activation}
 use Rattle.verified_machine.specs.Fitting as machine
 use Rattle.verified_machine.specs.Seen.{codes_alone}
 use Rattle.script_engine.specs.declared.compiling.Script.{Script}
-use Rattle.script_engine.specs.Ends.{alone, given_layer, end_of, end_with, end_in}
+use Rattle.script_engine.specs.Ends.{beside, given_layer, end_of, end_with, end_in}
 use Rattle.script_engine.specs.Fitting.{EndFits as LeftEndFits, LeavesFit}
 use Rattle.script_engine.specs.Laws.{ProgramsFit}
 use Rattle.script_engine.specs.Running.{word_in, words_in, params_of, value_by, value_of, end_left, LeftOf, world_at, begun}
@@ -130,14 +130,14 @@ ends_of rules before n of (Thrown id s e) h = (h.0.0, h.2)
 ends_of rules before n of (Over limit w) h = h
 ends_of rules before n of More h = tt
 
-ends_in : (rules : Rules) (p : Program) (limits : run_limits) (bound : ℕ) (main : Fun) (e : Option Env) (w : World) → Fits rules w.store.objects → source.EntryFits (count_in w) e
-    → EndsFit rules w.store.objects (end_in p limits bound main e w)
-ends_in rules p limits bound main None w f g = tt
-ends_in rules p limits bound main (Some e) w f g =
+ends_in : (rules : Rules) (p prelude : Program) (limits : run_limits) (bound : ℕ) (main : Fun) (e : Option Env) (w : World) → Fits rules w.store.objects → source.EntryFits (count_in w) e
+    → EndsFit rules w.store.objects (end_in p prelude limits bound main e w)
+ends_in rules p prelude limits bound main None w f g = tt
+ends_in rules p prelude limits bound main (Some e) w f g =
     ends_of rules w.store.objects (count_in w) main.result _
-    ((meanings_fit rules w.store.objects (alone p) limits bound).stmts main.body (record { text = script_text; depth = 0 }) (record { world = w; turns = 0 }) e (beginnings_fit rules w f, g))
+    ((meanings_fit rules w.store.objects (beside p prelude) limits bound).stmts main.body (record { text = script_text; depth = 0 }) (record { world = w; turns = 0 }) e (beginnings_fit rules w f, g))
 
 pub programs_fit : ProgramsFit
-programs_fit rules p limits args w end f g run =
+programs_fit rules p prelude limits args w end f g run =
     subst (EndsFit rules w.store.objects) run.is
-    (ends_in rules p limits run.bound (fun_of p.main) (entry (fun_of p.main).params args []) w f (source.entry_fits (count_in w) (fun_of p.main).params args [] g tt))
+    (ends_in rules p prelude limits run.bound (fun_of p.main) (entry (fun_of p.main).params args []) w f (source.entry_fits (count_in w) (fun_of p.main).params args [] g tt))

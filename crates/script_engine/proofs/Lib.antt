@@ -1,4 +1,4 @@
-pub mod Alone
+pub mod Beside
 pub mod Stages
 pub mod Placed
 pub mod Compiled
@@ -11,5 +11,6 @@ pub mod Counted
 pub mod Listed
 pub mod Words
 pub mod Texts
+pub mod Keeping
 -- Lemmas of the libraries below, passed on.
 pub use Rattle.typing_soundness.proofs.Types

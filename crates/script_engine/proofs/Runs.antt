@@ -41,8 +41,10 @@ use Rattle.verified_machine.specs.Seen.{codes_alone, limits_of, limit_of, ended}
 use Rattle.verified_machine.specs.Activations.{Activation, later, is_over, counted}
 use Rattle.verified_machine.proofs.Turning.{comes_to_its_end}
 use Rattle.script_engine.specs.declared.compiling.Script.{Script}
-use Rattle.script_engine.specs.Ends.{alone, end_of, end_in, end_with, given, given_layer}
-use Rattle.script_engine.proofs.Alone.{no_prelude_code, with_no_prelude}
+use Rattle.script_engine.specs.Ends.{beside, end_of, end_in, end_with, given, given_layer}
+use Rattle.script_engine.specs.Codes.{begins, functions_in, script_codes}
+use Rattle.script_engine.specs.Preludes.{empty_program, prelude_code}
+use Rattle.script_engine.proofs.Beside.{ends_without, prelude_compiled, starts_in_script, with_prelude}
 use Rattle.script_engine.specs.Running.{value_by, value_of, word_in, words_in, params_of, end_left, end_seen, world_left, world_at, begun, Comes, IsOutcome, RunsAsItsProgram, TakesTyped}
 use Rattle.script_engine.specs.Compiling.{IsScriptOf}
 use Rattle.script_engine.proofs.Left.{comes_with}
@@ -186,12 +188,12 @@ limited_end of More limit w is = cc
 
 abbrev pub main_out : Program → run.Limits → ℕ → Fun → World → Env → Out Flow
 main_out p limits bound main begun e =
-    (meaning (alone p) limits bound).stmts (record { text = script_text; depth = 0 }) (record { world = begun; turns = 0 }) e main.body
+    (meaning (beside p empty_program) limits bound).stmts (record { text = script_text; depth = 0 }) (record { world = begun; turns = 0 }) e main.body
 
 end_read : (p : Program) (limits : run.Limits) (bound : ℕ) (main : Fun) (o : Option Env) (begun : World)
     → ((e : Env) → o ≡ Some e → IsEnough main.result (main_out p limits bound main begun e)) → (end : run_end.RunEnd) (left : left_end.End) (w : World)
-    → end_left main.result end ≡ Some left → (whole : End (Option Word)) → code.source_in (alone p) limits bound main o begun ≡ Some whole → Ends whole ≡ ended end w
-    → end_in p limits bound main o begun ≡ Some (end_seen left w)
+    → end_left main.result end ≡ Some left → (whole : End (Option Word)) → code.source_in (beside p empty_program) limits bound main o begun ≡ Some whole → Ends whole ≡ ended end w
+    → end_in p empty_program limits bound main o begun ≡ Some (end_seen left w)
 end_read p limits bound main None begun enough end left w seen whole is same = cc
 end_read p limits bound main (Some e) begun enough (r.Result word) left w seen whole is same =
     let ends : whole ≡ Result word w = cc in
@@ -244,30 +246,31 @@ words_match (x ∷ params) (value ∷ args) (word ∷ words) are =
 same_env : (o : Option Env) (e e' : Env) → o ≡ Some e → o ≡ Some e' → e ≡ e'
 same_env o e e' is is' = cc
 
--- How the code of a script of a program ends on arguments, and how the program does at a bound that is enough.
-pub record BothEnd (p : Program) (functions : List FunCode) (limits : run.Limits) (args : List Value) (w : World) : Type 0 where
+-- How the code of a script of a program ends on arguments beside the prelude's, and how the program does at a bound that is enough.
+pub record BothEnd (p : Program) (script : Script) (limits : run.Limits) (args : List Value) (w : World) : Type 0 where
   pub end : End (Option Word)
-  pub code_ends : EndsAs (codes_alone functions) limits (start (codes_alone functions) (words_in (params_of (slice_get functions 0)) args) w) end
+  pub code_ends : EndsAs (functions_in (script_codes script)) limits (begins (script_codes script) args w) end
   pub bound : ℕ
   pub comes : (e : Env) → entry (fun_of p.main).params args [] ≡ Some e → IsEnough (fun_of p.main).result (main_out p limits bound (fun_of p.main) w e)
-  pub is : code.source_in (alone p) limits bound (fun_of p.main) (entry (fun_of p.main).params args []) w ≡ Some end
+  pub is : code.source_in (beside p empty_program) limits bound (fun_of p.main) (entry (fun_of p.main).params args []) w ≡ Some end
 
-pub both_end : CodeEndsAsPrograms → (allow : AllowList) (context : ContextTypes) (p : Program) (script : Script) → IsScriptOf allow context p script → (limits : run.Limits) → limits.allowed ≡ allow
-    → (args : List Value) → HaveAll (types_in (map variable_of context.variables)) args → (w : World) → BothEnd p script.executable.code.functions limits args w
+pub both_end : CodeEndsAsPrograms → (allow : AllowList) (context : ContextTypes) (p : Program) (script : Script) → IsScriptOf allow context p script → (limits : run.Limits) → limits.ground.allowed ≡ allow
+    → (args : List Value) → HaveAll (types_in (map variable_of context.variables)) args → (w : World) → BothEnd p script limits args w
 both_end outcomes allow context p script is limits allowed args have w =
     let main = fun_of p.main in
     let functions = script.executable.code.functions in
     let have' : HaveAll (types_in main.params) args = subst (λ ps. HaveAll (types_in ps) args) (sym is.variables) have in
-    let formed = with_no_prelude p limits (subst (λ list. WellFormed (known list (program_of p))) (sym allowed) is.formed) in
-    let out = outcomes p [] (codes_alone functions) limits formed is.code no_prelude_code args have' w in
+    let formed = with_prelude p limits (subst (λ list. WellFormed (known list (program_of p))) (sym allowed) is.formed) in
+    let codes = functions_in (script_codes script) in
+    let out = outcomes p (program_of empty_program) codes limits formed is.code prelude_compiled args have' w in
     let first = is.code.each 0 main refl in
     let kinds : params_of (slice_get functions 0) ≡ kinds_of main.params = ap params_of first.is ∙ first.params in
     let words : out.words ≡ words_in (params_of (slice_get functions 0)) args = words_match main.params args out.words out.are.are ∙ ap (λ ks. words_in ks args) (sym kinds) in
-    let bound = enough (alone p) w in
-    let ran = comes_to_an_end (alone p) limits formed main refl args have' w bound (omega arith) in
+    let bound = enough (beside p empty_program) w in
+    let ran = comes_to_an_end (beside p empty_program) limits formed main refl args have' w bound (omega arith) in
     record {
       end = out.end;
-      code_ends = subst (λ ws. EndsAs (codes_alone functions) limits (start (codes_alone functions) ws w) out.end) words out.code_ends;
+      code_ends = subst (λ ws. EndsAs codes limits (start codes ws w) out.end) words out.code_ends;
       bound = bound;
       comes = λ e h. subst (λ x. IsEnough main.result (main_out p limits bound main w x)) (same_env (entry main.params args []) ran.0 e ran.1 h) ran.2;
       is = out.ends.always bound (omega arith);
@@ -285,10 +288,12 @@ runs_as_its_program outcomes script store args limits a q o begun over by allow 
     let both = both_end outcomes allow context p script is kept is.allowed args have w in
     let from = start (codes_alone functions) (words_in (params_of (slice_get functions 0)) args) w in
     let b : Activation = record { code = functions; limits = limits; allow = script.executable.allow; frame = script.executable.frame; now = Some from; steps = 0 } in
-    let stands : (later q b).now ≡ Some (Ends both.end) = ends_there b from both.end refl both.code_ends q (subst (λ x. IsTrue (is_over (later q x).now)) begun over) in
+    let words = words_in (params_of (slice_get functions 0)) args in
+    let alone = ends_without functions prelude_code.functions kept from both.end (starts_in_script functions prelude_code.functions words w) both.code_ends in
+    let stands : (later q b).now ≡ Some (Ends both.end) = ends_there b from both.end refl alone q (subst (λ x. IsTrue (is_over (later q x).now)) begun over) in
     let there : Some (Ends both.end) ≡ Some (ended by.end (world_left o by.left)) = sym stands ∙ sym (ap (λ x. (later q x).now) begun) ∙ by.stands in
     let same : Ends both.end ≡ ended by.end (world_left o by.left) = cc in
-    subst (λ list. IsOutcome list p store args limits o) is.allowed (record {
+    subst (λ list. IsOutcome list p empty_program store args limits o) is.allowed (record {
       left = by.left;
       ends = record {
         bound = both.bound;
@@ -336,7 +341,7 @@ arguments_fit (x ∷ params) (value ∷ args) have =
     ap (λ k. k ∷ word_kinds (words_in (kinds_of params) args)) (layer_kind (out-Ty x.of) value have.0)
     ∙ ap (λ ks. kind_of x.of ∷ ks) (arguments_fit params args have.1)
 
-first_params : (code : List FunCode) (f : FunCode) → slice_get code 0 ≡ Some f → main_params code ≡ f.params
+pub first_params : (code : List FunCode) (f : FunCode) → slice_get code 0 ≡ Some f → main_params code ≡ f.params
 first_params [] f is = cc
 first_params (g ∷ code) f is = cc
 

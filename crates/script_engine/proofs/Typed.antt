@@ -27,11 +27,12 @@ use Rattle.typing_soundness.proofs.SourceTypingValues.{MadeTyped, returned_typed
 use Rattle.typing_soundness.proofs.Operations.{MadeOf, box_made, all_have}
 use Rattle.typing_soundness.proofs.Meanings.{results_are_typed}
 use Rattle.script_engine.specs.declared.compiling.Script.{Script}
-use Rattle.script_engine.specs.Ends.{alone, given_layer, end_with, end_of, end_in, RunsTo}
+use Rattle.script_engine.specs.Ends.{beside, given_layer, end_with, end_of, end_in, RunsTo}
 use Rattle.script_engine.specs.Laws.{ProgramsAreTyped}
+use Rattle.script_engine.specs.Preludes.{empty_program}
 use Rattle.script_engine.specs.Running.{RunsAsItsProgram, world_at, world_left, end_seen}
 use Rattle.script_engine.specs.Typed.{EndIsOf, ValueIsOf, GivesTyped}
-use Rattle.script_engine.proofs.Alone.{with_no_prelude}
+use Rattle.script_engine.proofs.Beside.{with_prelude}
 use Rattle.script_engine.proofs.Compiled.{formed_from, variables_from, result_from}
 
 -- ---- its program
@@ -64,19 +65,19 @@ ends_of rules start g of (Thrown id s e) h = tt
 ends_of rules start g of (Over limit w) h = tt
 ends_of rules start g of More h = tt
 
-ends_in : (rules : Rules) (p : Program) (limits : Limits) → AreWellFormed (alone p) limits → (bound : ℕ) (w : World) (args : List Value) → rules.typed ≡ Every → Fits rules w.store.objects
+ends_in : (rules : Rules) (p : Program) (limits : Limits) → AreWellFormed (beside p empty_program) limits → (bound : ℕ) (w : World) (args : List Value) → rules.typed ≡ Every → Fits rules w.store.objects
     → AreTyped w.store.objects (types_in (fun_of p.main).params) args → (e : Option Env) → entry (fun_of p.main).params args [] ≡ e
-    → EndsTyped (fun_of p.main).result (end_in p limits bound (fun_of p.main) e w)
+    → EndsTyped (fun_of p.main).result (end_in p empty_program limits bound (fun_of p.main) e w)
 ends_in rules p limits formed bound w args every f h None entered = tt
 ends_in rules p limits formed bound w args every f h (Some e) entered =
     let main = fun_of p.main in
-    ends_of rules w.store.objects (scope_of main.params []) main.result _ (results_are_typed rules (alone p) limits bound every formed main refl w args f h e entered)
+    ends_of rules w.store.objects (scope_of main.params []) main.result _ (results_are_typed rules (beside p empty_program) limits bound every formed main refl w args f h e entered)
 
 -- the run of a well-formed program
-formed_gives : (rules : Rules) (allow : AllowList) (p : Program) → WellFormed (known allow (program_of p)) → (limits : Limits) → limits.allowed ≡ allow → (args : List Value) (w : World) (end : End Value)
-    → rules.typed ≡ Every → Fits rules w.store.objects → AreTyped w.store.objects (types_in (fun_of p.main).params) args → RunsTo p limits args w end → EndIsOf (fun_of p.main).result end
+formed_gives : (rules : Rules) (allow : AllowList) (p : Program) → WellFormed (known allow (program_of p)) → (limits : Limits) → limits.ground.allowed ≡ allow → (args : List Value) (w : World) (end : End Value)
+    → rules.typed ≡ Every → Fits rules w.store.objects → AreTyped w.store.objects (types_in (fun_of p.main).params) args → RunsTo p empty_program limits args w end → EndIsOf (fun_of p.main).result end
 formed_gives rules allow p formed limits allowed args w end every f h run =
-    let held = with_no_prelude p limits (subst (λ list. WellFormed (known list (program_of p))) (sym allowed) formed) in
+    let held = with_prelude p limits (subst (λ list. WellFormed (known list (program_of p))) (sym allowed) formed) in
     subst (EndsTyped (fun_of p.main).result) run.is (ends_in rules p limits held run.bound w args every f h (entry (fun_of p.main).params args []) refl)
 
 pub programs_are_typed : ProgramsAreTyped

@@ -1,6 +1,7 @@
 -- How the run of a program ends.
 use Rattle.std.specs.Prelude.{◌≡◌, ℕ, List, [], Option, Some, None, unwrap_or}
 use Rattle.object_values.specs.declared.value.Value.{Value}
+use Rattle.object_values.specs.declared.object.Owner.{Owner}
 use Rattle.object_values.specs.declared.object.Owner.TheVariants.{Script}
 use Rattle.object_values.specs.declared.value.Value.TheVariants as v
 use Rattle.pl_types.specs.declared.ty.Ty.{Ty, out-Ty}
@@ -32,20 +33,24 @@ end_of of (Thrown id s e) = Some (Uncaught id s.world)
 end_of of (Over limit w) = Some (Limited limit w)
 end_of of More = None
 
--- a script's program, beside a prelude that has no function yet
-abbrev pub alone : Program → Programs
-alone p = record { script = program_of p; prelude = [] }
+-- a script's program beside the prelude's
+abbrev pub beside : Program → Program → Programs
+beside p prelude = record { script = program_of p; prelude = program_of prelude }
 
-abbrev pub end_in : Program → Limits → ℕ → Fun → Option Env → World → Option (End Value)
-end_in p limits bound main None w = None
-end_in p limits bound main (Some e) w =
-    end_of main.result ((meaning (alone p) limits bound).stmts (record { text = Script; depth = 0 }) (record { world = w; turns = 0 }) e main.body)
+-- how the run of a function of a text ends at a bound, from where it is entered, if it is
+abbrev pub end_from : Programs → Owner → Limits → ℕ → Fun → Option Env → World → Option (End Value)
+end_from funs text limits bound f None w = None
+end_from funs text limits bound f (Some e) w =
+    end_of f.result ((meaning funs limits bound).stmts (record { text = text; depth = 0 }) (record { world = w; turns = 0 }) e f.body)
+
+abbrev pub end_in : Program → Program → Limits → ℕ → Fun → Option Env → World → Option (End Value)
+end_in p prelude limits bound main e w = end_from (beside p prelude) Script limits bound main e w
 
 -- how the main script's run on these arguments ends at a bound
-abbrev pub end_at : Program → Limits → ℕ → List Value → World → Option (End Value)
-end_at p limits bound args w = end_in p limits bound (fun_of p.main) (entry (fun_of p.main).params args []) w
+abbrev pub end_at : Program → Program → Limits → ℕ → List Value → World → Option (End Value)
+end_at p prelude limits bound args w = end_in p prelude limits bound (fun_of p.main) (entry (fun_of p.main).params args []) w
 
--- A program's run ends so: at some bound, and so at every greater one.
-pub record RunsTo (p : Program) (limits : Limits) (args : List Value) (w : World) (end : End Value) : Type 0 where
+-- A program's run beside the prelude's program ends so: at some bound, and so at every greater one.
+pub record RunsTo (p prelude : Program) (limits : Limits) (args : List Value) (w : World) (end : End Value) : Type 0 where
   pub bound : ℕ
-  pub is : end_at p limits bound args w ≡ Some end
+  pub is : end_at p prelude limits bound args w ≡ Some end

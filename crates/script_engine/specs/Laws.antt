@@ -20,7 +20,7 @@ use Rattle.verified_machine.specs.Seen.{limits_of}
 use Rattle.script_engine.specs.declared.compiling.Script.{Script}
 use Rattle.script_engine.specs.Compiling.{IsScriptOf}
 use Rattle.script_engine.specs.Running.{world_at}
-use Rattle.script_engine.specs.Codes.{Counts, IsListed, IsPreludeListed, prelude_code}
+use Rattle.script_engine.specs.Codes.{Counts, IsListed, IsPreludeListed, ScriptCodes, empty_program, prelude_code, script_codes}
 use Rattle.script_engine.specs.Programs.{IsProgramOf}
 use Rattle.script_engine.specs.Ends.{RunsTo}
 use Rattle.script_engine.specs.Typed.{HasVariables, EndIsOf}
@@ -34,20 +34,23 @@ abbrev pub TextsAreAnsweredOnce : Type 0
 TextsAreAnsweredOnce =
     (allow : AllowList) (context : ContextTypes) (text : List ℕ) (a b : Result Program Refusal) → IsProgramOf allow context text a → IsProgramOf allow context text b → a ≡ b
 
--- The run of a text's program ends, on all arguments of the types of the context's variables,
+-- The run of a text's program beside the prelude's ends, on all arguments of the types of the context's variables,
 abbrev pub ProgramsEnd : Type 0
 ProgramsEnd =
     (allow : AllowList) (context : ContextTypes) (text : List ℕ) (p : Program) → IsContext context → IsProgramOf allow context text (Ok p)
-    → (limits : Limits) → limits.allowed ≡ allow → (args : List Value) → HaveAll (types_in (map variable_of context.variables)) args → (w : World) → (end : End Value) × RunsTo p limits args w end
+    → (limits : Limits) → limits.ground.allowed ≡ allow → (args : List Value) → HaveAll (types_in (map variable_of context.variables)) args → (w : World) → (end : End Value) × RunsTo p empty_program limits args w end
 
 -- .. and in one way.
 abbrev pub ProgramsEndOnce : Type 0
-ProgramsEndOnce = (p : Program) (limits : Limits) (args : List Value) (w : World) (end other : End Value) → RunsTo p limits args w end → RunsTo p limits args w other → end ≡ other
+ProgramsEndOnce =
+    (p prelude : Program) (limits : Limits) (args : List Value) (w : World) (end other : End Value) → RunsTo p prelude limits args w end → RunsTo p prelude limits args w other → end ≡ other
 
 -- .. Where the objects and the arguments fit, so does the end: the objects fit, those of the start are still there, each of its kind and
 -- of its class, and what is given or thrown is there.
 abbrev pub ProgramsFit : Type 0
-ProgramsFit = (rules : Rules) (p : Program) (limits : Limits) (args : List Value) (w : World) (end : End Value) → Fits rules w.store.objects → AllFit (count_in w) args → RunsTo p limits args w end
+ProgramsFit =
+    (rules : Rules) (p prelude : Program) (limits : Limits) (args : List Value) (w : World) (end : End Value) → Fits rules w.store.objects → AllFit (count_in w) args
+    → RunsTo p prelude limits args w end
     → EndFits ValueFits rules w.store.objects end
 
 -- .. And where the objects fit by the rules of a program, and the arguments are of the types of the context's variables, what is given is of
@@ -55,8 +58,8 @@ ProgramsFit = (rules : Rules) (p : Program) (limits : Limits) (args : List Value
 abbrev pub ProgramsAreTyped : Type 0
 ProgramsAreTyped =
     (rules : Rules) (allow : AllowList) (context : ContextTypes) (text : List ℕ) (p : Program) → IsContext context → IsProgramOf allow context text (Ok p)
-    → (limits : Limits) → limits.allowed ≡ allow → (args : List Value) (w : World) (end : End Value) → rules.typed ≡ Every → Fits rules w.store.objects → HasVariables w.store.objects context args
-    → RunsTo p limits args w end → EndIsOf context.result end
+    → (limits : Limits) → limits.ground.allowed ≡ allow → (args : List Value) (w : World) (end : End Value) → rules.typed ≡ Every → Fits rules w.store.objects → HasVariables w.store.objects context args
+    → RunsTo p empty_program limits args w end → EndIsOf context.result end
 
 -- ---- what is listed and counted
 
@@ -64,19 +67,19 @@ ProgramsAreTyped =
 abbrev pub CodesAreListed : Type 0
 CodesAreListed =
     (allow : AllowList) (context : ContextTypes) (p : Program) (script : Script) → IsScriptOf allow context p script → shape_fault allow script.executable.code ≡ None
-    → IsListed allow context p script.executable.code
+    → IsListed allow context p empty_program (script_codes script)
 
--- .. and the prelude's for the prelude.
+-- .. and the prelude's for the prelude, beside each script.
 abbrev pub PreludeIsListed : Type 0
-PreludeIsListed = IsPreludeListed prelude_code
+PreludeIsListed = (allow : AllowList) (p : Program) (script : Code) → IsPreludeListed allow p empty_program (record { script = script; prelude = prelude_code })
 
 -- From one start instructions are counted in one way,
 abbrev pub CodesCountOnce : Type 0
-CodesCountOnce = (code : Code) (limits : Limits) (args : List Value) (w : World) (a b : ℕ) → Counts code limits args w a → Counts code limits args w b → a ≡ b
+CodesCountOnce = (codes : ScriptCodes) (limits : Limits) (args : List Value) (w : World) (a b : ℕ) → Counts codes limits args w a → Counts codes limits args w b → a ≡ b
 
--- .. and those of a code that may be listed are counted, on all arguments of the types of the context's variables.
+-- .. and those of codes that may be listed are counted, on all arguments of the types of the context's variables.
 abbrev pub ListedCodesCount : Type 0
 ListedCodesCount =
-    (allow : AllowList) (context : ContextTypes) (p : Program) (code : Code) → IsListed allow context p code
+    (allow : AllowList) (context : ContextTypes) (p prelude : Program) (codes : ScriptCodes) → IsListed allow context p prelude codes
     → (limits : machine.Limits) (store : Store) (args : List Value) → HaveAll (types_in (map variable_of context.variables)) args
-    → (count : ℕ) × Counts code (limits_of limits allow) args (world_at store limits) count
+    → (count : ℕ) × Counts codes (limits_of limits allow) args (world_at store limits) count

@@ -32,6 +32,7 @@ use Rattle.verified_machine.specs.Activations.{Activation}
 use Rattle.script_engine.specs.declared.compiling.Script.{Script}
 use Rattle.script_engine.specs.Compiling.{IsScriptOf}
 use Rattle.script_engine.specs.Ends.{RunsTo}
+use Rattle.script_engine.specs.Preludes.{empty_program}
 
 -- ---- arguments
 
@@ -121,14 +122,15 @@ begun script store args limits = record {
   steps = 0;
 }
 
--- The outcome is that of the program under a list on these arguments: how its run ends, in which world, and how many ticks it paid.
-pub record IsOutcome (allow : AllowList) (p : Program) (store : Store) (args : List Value) (limits : Limits) (o : Outcome) : Type 0 where
+-- The outcome is that of the program beside the prelude's, under a list, on these arguments: how its run ends, in which world, and how many
+-- ticks it paid.
+pub record IsOutcome (allow : AllowList) (p prelude : Program) (store : Store) (args : List Value) (limits : Limits) (o : Outcome) : Type 0 where
   pub left : ℕ
-  pub ends : RunsTo p (limits_of limits allow) args (world_at store limits) (end_seen o.end (world_left o left))
+  pub ends : RunsTo p prelude (limits_of limits allow) args (world_at store limits) (end_seen o.end (world_left o left))
   pub ticks : o.ticks ≡ limits.ticks - left
 
 -- A script runs as its program does, on arguments of the types of the context's variables.
 abbrev pub RunsAsItsProgram : Script → Store → List Value → Limits → Outcome → Type 0
 RunsAsItsProgram script store args limits o =
     (allow : AllowList) (context : ContextTypes) (p : Program) → IsScriptOf allow context p script → HaveAll (types_in (map variable_of context.variables)) args
-    → IsOutcome allow p store args limits o
+    → IsOutcome allow p empty_program store args limits o

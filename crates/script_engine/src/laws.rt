@@ -2,6 +2,7 @@
 ghost use Rattle.script_engine.specs.Laws.{CodesAreListed, CodesCountOnce, ListedCodesCount, PreludeIsListed, TextsAreAnswered, TextsAreAnsweredOnce, ProgramsAreTyped, ProgramsEnd, ProgramsEndOnce, ProgramsFit};
 
 use compiled_outcome::programs_end;
+use compiled_runs::{programs_run, verified_run_laws};
 use pl_parser::{each_text_has_one_reading, plain_laws};
 
 /// A text is a program or is refused by one rule, and the run of its program comes to one end, which fits where
@@ -18,8 +19,9 @@ pub fn script_laws()
     plain_laws();
 }
 
-/// The code of a script may be listed for its program: no fault is in it, and it ends as the program does. The prelude's may be listed for
-/// the prelude. From one start instructions are counted in one way.
+/// The code of a script may be listed for its program: no fault is in it, it ends as the program does, and it calls members of the list
+/// alone. The prelude's may be listed for the prelude: each of its functions ends as that of the prelude's program does. From one start
+/// instructions are counted in one way.
 pub fn code_laws()
     ensures listed { CodesAreListed }
     ensures prelude { PreludeIsListed }
@@ -27,4 +29,6 @@ pub fn code_laws()
     ensures counted { ListedCodesCount }
 {
     programs_end();
+    programs_run();
+    verified_run_laws();
 }

@@ -1,13 +1,14 @@
 //! Runs of scripts.
 
 ghost use Rattle.std.specs.List.{list_all};
-ghost use Rattle.std.specs.Prelude.{◌≡◌, IfOk, IsOk, List, Some, length, slice_get, true};
+ghost use Rattle.std.specs.Prelude.{◌≡◌, ◌≤◌, IfOk, IsOk, List, Some, length, slice_get, true};
 ghost use Rattle.static_types.specs.Allow.{flag};
+ghost use Rattle.compiled_runs.specs.Bounds.{most_steps};
 ghost use Rattle.object_heap.specs.Fits.{AllFit, Every, Fits, Rules};
 ghost use Rattle.object_values.specs.declared.object.Object.{Object};
 ghost use Rattle.verified_machine.specs.Fitting.{NowFits};
 ghost use Rattle.verified_machine.specs.Seen.{limits_of};
-ghost use Rattle.script_engine.specs.Codes.{Counts};
+ghost use Rattle.script_engine.specs.Codes.{Counts, script_codes};
 ghost use Rattle.script_engine.specs.Fitting.{LeavesFit};
 ghost use Rattle.script_engine.specs.Typed.{GivesTyped};
 ghost use Rattle.verified_machine.specs.Rows.{HaveRows};
@@ -221,8 +222,10 @@ impl Script {
         // Where the heap fits by the rules of a program and each argument is of its variable's type in it, the value that is given is of the result's type in what is
         // left.
         ensures typed { (rules : Rules) → rules.typed ≡ Every → Fits rules heap.objects → IfOk result (GivesTyped self.now heap args.items) }
-        // The instructions of the script's code are counted up to its end, as far as 64 bits count them.
-        ensures counts { IfOk result (λ o. Counts self.now.executable.code (limits_of limits self.now.executable.allow) args.items (world_at heap limits) o.steps) }
+        // The instructions of the script's code, beside that of the prelude, are counted up to its end, as far as 64 bits count them.
+        ensures counts { IfOk result (λ o. Counts (script_codes self.now) (limits_of limits self.now.executable.allow) args.items (world_at heap limits) o.steps) }
+        // There are no more of them than ticks, depth and the longest function allow.
+        ensures bound { IfOk result (λ o. o.steps ≤ most_steps self.now.executable.code.functions (limits_of limits self.now.executable.allow) limits.ticks) }
         // Members of the list alone were reached.
         ensures reaches { IfOk result (λ o. list_all (flag self.now.executable.allow.members) o.reached ≡ true) }
     {
@@ -253,7 +256,8 @@ impl Script {
         // As of [`Script::run`].
         ensures heap { (rules : Rules) → Fits rules heap.objects → AllFit (length heap.objects) args.items → IfOk result (λ ran. LeavesFit rules heap.objects ran.outcome) }
         ensures typed { (rules : Rules) → rules.typed ≡ Every → Fits rules heap.objects → IfOk result (λ ran. GivesTyped self.now heap args.items ran.outcome) }
-        ensures counts { IfOk result (λ ran. Counts self.now.executable.code (limits_of limits self.now.executable.allow) args.items (world_at heap limits) ran.outcome.steps) }
+        ensures counts { IfOk result (λ ran. Counts (script_codes self.now) (limits_of limits self.now.executable.allow) args.items (world_at heap limits) ran.outcome.steps) }
+        ensures bound { IfOk result (λ ran. ran.outcome.steps ≤ most_steps self.now.executable.code.functions (limits_of limits self.now.executable.allow) limits.ticks) }
         ensures reaches { IfOk result (λ ran. list_all (flag self.now.executable.allow.members) ran.outcome.reached ≡ true) }
     {
         programs_end();

@@ -7,7 +7,7 @@ ghost use Rattle.script_engine.specs.Running.{TakesArguments};
 
 use allowlist::{Allow, AllowErr, Catalogue};
 use object_heap::{End, Heap, Outcome, Which};
-use object_values::Value;
+use object_values::{Seed, Value};
 use pl_types::classes::CLASS_COUNT;
 use pl_types::{Fail, Ty, class_short};
 use pl_units::UText;
@@ -89,7 +89,7 @@ fn run(alloc: Global, script: &Script, bounds: Bounds) -> Result<Outcome, AllocE
     requires takes { TakesArguments script.now [] }
 {
     let args = Vec::new(alloc);
-    let heap = Heap::new(alloc, bounds.room);
+    let heap = Heap::new(alloc, bounds.room, Seed::of(b"row"));
     let limits = Limits {
         loops: bounds.loops,
         depth: bounds.depth,

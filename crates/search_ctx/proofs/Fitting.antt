@@ -66,7 +66,7 @@ list_class : class_is_below SCRIPT_DOC_VALUES LIST ≡ true
 unfolding class_is_below lineage_of parents_of class_row class_table
 list_class = refl
 
-map_class : class_is_below HASH_MAP MAP ≡ true
+pub map_class : class_is_below HASH_MAP MAP ≡ true
 unfolding class_is_below lineage_of parents_of class_row class_table
 map_class = refl
 

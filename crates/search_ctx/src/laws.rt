@@ -1,6 +1,7 @@
 //! Laws on what placing and binding keep, and on the fields of a mapping.
 
 ghost use Rattle.search_ctx.specs.Laws.{FieldsStay, JobFieldsAreDistinct, LinesFit, PlacingFits, ReadFieldsAreDistinct};
+ghost use Rattle.search_ctx.specs.Typed.{LinesTyped, ParamsAreObjects};
 
 use json_bridge::binding_keeps_fit;
 
@@ -16,6 +17,16 @@ pub fn lines_fit()
 {
     binding_keeps_fit();
 }
+
+/// A law that callers may cite: what a line is bound to are arguments of the types of its context's variables, where `params` is an object.
+pub fn lines_are_typed()
+    ensures { LinesTyped }
+{}
+
+/// A law that callers may cite: `params` of a job that is read is an object.
+pub fn params_are_objects()
+    ensures { ParamsAreObjects }
+{}
 
 /// A law that callers may cite: where no name stands twice in a mapping, its fields are the mapping's.
 pub fn fields_stay()

@@ -15,9 +15,11 @@ pub use doc::FieldDoc;
 pub use error::{BindErr, DocErr};
 pub use fields::Fields;
 pub use laws::{
-    fields_stay, job_fields_are_distinct, lines_fit, placing_keeps_fit, read_fields_are_distinct,
+    fields_stay, job_fields_are_distinct, lines_are_typed, lines_fit, params_are_objects,
+    placing_keeps_fit, read_fields_are_distinct,
 };
 pub use line::{Bound, SearchKind, bind_document, bind_line};
+pub use object_values::Seed;
 pub use placing::place_doc;
 pub use values::FieldValues;
 pub use words::Words;

@@ -3,8 +3,8 @@
 ghost use Rattle.std.specs.Prelude.{◌≡◌, ◌∷◌, Some, None, Err, option_map, IfOk, IfErr};
 ghost use Rattle.std.specs.Str.{IsUtf8};
 ghost use Rattle.serde_json.specs.Read.{read};
-ghost use Rattle.serde_json.specs.View.{view, items_view, members_view};
-ghost use Rattle.job_file.specs.Values.{has_whole_numbers, items_have_whole_numbers, members_have_whole_numbers};
+ghost use Rattle.serde_json.specs.View.{view};
+ghost use Rattle.object_values.specs.Seeds.{seed_with};
 ghost use Rattle.search_ctx.specs.declared.error.DocErr.TheVariants as doc_err;
 ghost use Rattle.search_ctx.specs.Lines.{Answered, bound_document, bound_line, score_args, score_in, score_of, search_of, search_view, syntax};
 ghost use Rattle.search_ctx.specs.declared.line.SearchKind.TheVariants as k;
@@ -14,11 +14,12 @@ use crate::error::{BindErr, DocErr};
 use crate::fields::Fields;
 use crate::placing::place_doc;
 use crate::walk::SCORE_KEY;
+use job_file::has_whole_numbers;
 use json_bridge::bind;
 use json_reading::{Scratch, read_json};
 use object_heap::Heap;
-use object_values::{Elements, Value};
-use serde_json::{Map, Value as Json};
+use object_values::{Elements, Seed, Value};
+use serde_json::Value as Json;
 use std::alloc::{AllocError, Global};
 
 /// A context over documents.
@@ -73,45 +74,6 @@ impl Drop for Search {
             score: _,
         } = self;
     }
-}
-
-/// Whether each number in a value is a whole one of 64 bits with a sign.
-#[cycle(numbers)]
-fn has_whole_numbers(value: &Json) -> bool
-    ensures { result ≡ has_whole_numbers (view value.now) }
-{
-    match value {
-        Json::Number(number) => number.is_i64(),
-        Json::Array(items) => items_have_whole_numbers(items),
-        Json::Object(members) => members_have_whole_numbers(members),
-        _ => true,
-    }
-}
-
-/// The same of each item.
-#[cycle(numbers)]
-fn items_have_whole_numbers(items: &Vec<Json>) -> bool
-    ensures { result ≡ items_have_whole_numbers (items_view items.now.items) }
-{
-    for item in items {
-        if !has_whole_numbers(item) {
-            return false;
-        }
-    }
-    true
-}
-
-/// The same of the value of each member.
-#[cycle(numbers)]
-fn members_have_whole_numbers(members: &Map<String, Json>) -> bool
-    ensures { result ≡ members_have_whole_numbers (members_view members.now.entries) }
-{
-    for (_name, member) in members.iter() {
-        if !has_whole_numbers(member) {
-            return false;
-        }
-    }
-    true
 }
 
 /// The score that a value says: a whole number from 0.
@@ -170,7 +132,8 @@ fn scored_search(alloc: Global, fields: &Fields, line: &Json) -> Result<Search, 
     })
 }
 
-/// Binds a document that was read, as `bind_line` does what it reads of a line; so `Syntax` is never answered.
+/// Binds a document that was read, as `bind_line` does what it reads of a line; so `Syntax` is never answered. The heap is made from
+/// the seed.
 pub fn bind_document(
     alloc: Global,
     kind: SearchKind,
@@ -178,13 +141,14 @@ pub fn bind_document(
     params: &Json,
     line: &Json,
     room: u64,
+    seed: Seed,
 ) -> Result<Bound, BindErr>
     ensures { Answered result (bound_document kind fields.now (view params.now) room (view line.now)) }
 {
     if !has_whole_numbers(line) {
         return Err(BindErr::Number);
     }
-    let mut heap = Heap::new(alloc, room);
+    let mut heap = Heap::new(alloc, room, seed);
     let params = bind(&mut heap, params, true)?;
     let search = search_of(alloc, kind, fields, line)?;
     let doc = place_doc(&mut heap, fields, &search.doc)?;
@@ -210,11 +174,19 @@ fn args_of(
     Ok(args)
 }
 
+/// From what the heap of a line is made, which changes no answer.
+fn seed_over(seed: Seed, line: &[u8]) -> Seed
+    ensures { result ≡ seed_with seed line.now }
+{
+    seed.with(line)
+}
+
 /// Binds a line of input in a context: a fresh heap with `params`, which nothing may change, and then `doc`, and the values of
 /// the context's variables. Of the causes why not the first is answered: `Syntax` where `serde_json` does not read the line,
 /// `Number` where some number of it or of `params` is no whole one of 64 bits with a sign, `Field` where it is no object, a value
 /// stands at a field that does not take it or, in the context score, `_score` is no number from 0. What is bound takes nothing
-/// from the room. The scratch is kept from line to line, and what lies in it changes nothing.
+/// from the room. The heap is made from the job's seed and from the line, so that whoever writes lines cannot choose keys that collide in
+/// the heap of one of them. The scratch is kept from line to line, and what lies in it changes nothing.
 pub fn bind_line(
     alloc: Global,
     kind: SearchKind,
@@ -222,11 +194,20 @@ pub fn bind_line(
     params: &Json,
     line: &[u8],
     room: u64,
+    seed: Seed,
     scratch: &mut Scratch,
 ) -> Result<Bound, BindErr>
     ensures text { IsUtf8 line.now → Answered result (bound_line kind fields.now (view params.now) room (read line.now)) }
     ensures bytes { ¬ IsUtf8 line.now → Answered result (Err syntax) }
 {
     let json = read_json(alloc, line, scratch)?;
-    bind_document(alloc, kind, fields, params, &json, room)
+    bind_document(
+        alloc,
+        kind,
+        fields,
+        params,
+        &json,
+        room,
+        seed_over(seed, line),
+    )
 }

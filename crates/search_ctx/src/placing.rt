@@ -52,7 +52,7 @@ pub(crate) fn place_lists(
     ensures pairs { IfOk result (λ pairs. pairs ≡ (lists_under (record { pairs = []; objects = heap.old.objects }) doc.now names.now).pairs) }
     ensures store { OnOk result (heap.new ≡ record heap.old { objects = (lists_under (record { pairs = []; objects = heap.old.objects }) doc.now names.now).objects }) }
 {
-    let mut pairs = Pairs::new(heap.alloc());
+    let mut pairs = Pairs::new(heap.alloc(), heap.seed());
     let mut rest = doc;
     for name in names {
         let Some((values, behind)) = rest.split_first() else {

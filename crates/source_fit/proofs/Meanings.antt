@@ -6,6 +6,7 @@ use Rattle.allowlist.specs.Allow.{flag}
 use Rattle.allowlist.specs.Index.{member_at}
 use Rattle.allowlist.specs.declared.member.MemberType.{MemberType}
 use Rattle.object_values.specs.declared.object.Object.{Object}
+use Rattle.object_values.specs.declared.object.Owner.{Owner}
 use Rattle.object_values.specs.declared.value.Value.{Value}
 use Rattle.object_values.specs.declared.value.Value.TheVariants as v
 use Rattle.object_heap.specs.Effects.{Effect}
@@ -20,6 +21,7 @@ use Rattle.typed_tree.specs.declared.operation.Target.{Target}
 use Rattle.typed_tree.specs.declared.operation.Target.TheVariants as target
 use Rattle.typed_tree.specs.declared.operation.Change.{Change}
 use Rattle.typed_tree.specs.declared.operation.Gives.{Gives as Given_by}
+use Rattle.number_ops.specs.Casts.{cast_at_run_time}
 use Rattle.number_ops.specs.Operators.{is_null}
 use Rattle.number_ops.specs.Outcomes as outcomes
 use Rattle.number_ops.specs.Relations.{thrown}
@@ -31,17 +33,17 @@ use Rattle.run_fit.specs.Laws.{DoneFits}
 use Rattle.run_fit.specs.Worlds.{WorldFits, count_in, OutcomeFits}
 use Rattle.run_fit.proofs.Containers.{AccessFits, index_read_fits, index_written_fits, name_read_fits, name_written_fits, method_called_fits}
 use Rattle.run_fit.proofs.Counted.{SameStore, turn_keeps, call_keeps, member_keeps}
-use Rattle.run_fit.proofs.Effects.{outcomes_fit, members_fit, throwing_fits}
+use Rattle.run_fit.proofs.Effects.{outcomes_fit, casts_fit, members_fit, throwing_fits}
 use Rattle.run_fit.proofs.Values.{value_grows, values_grow}
 use Rattle.run_fit.specs.Access.{Access, Calls, Acts as Does, index_read, index_written, name_read, name_written, method_called}
 use Rattle.source_meaning.specs.Tree.{Name, Expr, Literal, Quoted, Local, Apply, Guarded, Logic, Conditional, Elvis, Assign, Modify, Lambda, Reference, NewReference, Exprs, None', One, Maybe, Missing, Given as Present, Stmt, Do, If, While, DoWhile, Try, Block, Break, Continue, Return, Throw, Stmts, Finish, Then, Declare, Catches, NoCatch, Catch, Fun, Programs, functions_in}
-use Rattle.source_meaning.specs.Operating.{Operated, Meaningless, Gives, Acts, operates, operates_to, casts}
+use Rattle.source_meaning.specs.Operating.{Operated, Meaningless, Gives, Acts, operates, operates_to, casts, passed_result}
 use Rattle.source_meaning.specs.Members.{Sending, Unsent, OnNull, Sends, Reads, sent}
-use Rattle.source_meaning.specs.Meaning.{State, Env, Place, Out, Done, Thrown, Over, More, Flow, Normal, Broke, Continued, Returned, bind, leave, lookup, entry, found, effect, operated, choose, goes_next, goes_again, is_of_class, returned, back, Meaning, entered, called, acted, paid, tested, member_called, member_applied, of_member, accessed, method_applied, name_applied, name_put, index_applied, index_put, applied, logic, changed, modified, written, modified_at, given_by, expr_of, exprs_of, value_if, turned, done_turn, caught, handled, stmt_of, value_or, stmts_of, layer, meaning}
+use Rattle.source_meaning.specs.Meaning.{State, Env, Place, Out, Done, Thrown, Over, More, Flow, Normal, Broke, Continued, Returned, bind, leave, lookup, entry, found, effect, operated, choose, goes_next, goes_again, is_of_class, returned, back, cast_each, casts_due, Meaning, entered, called, acted, paid, tested, member_called, member_applied, of_member, accessed, method_applied, name_applied, name_put, index_applied, index_put, applied, logic, changed, modified, written, modified_at, given_by, expr_of, exprs_of, value_if, turned, done_turn, caught, handled, stmt_of, value_or, stmts_of, layer, meaning}
 use Rattle.source_fit.specs.Laws.{MeaningFits, MeaningsFit}
 use Rattle.source_fit.specs.Outs.{EnvFits, StateFits, FlowFits, OutFits}
 use Rattle.run_fit.proofs.Values.{MadeFits}
-use Rattle.source_fit.proofs.Values.{env_grows, older_fits, lookup_fits, assigned_fits, EntryFits, entry_fits, constant_fits, default_fits, returned_fits, given_by_fits, behind_fits, SendingFits, sent_fits, OperatedFits, operates_fit, operates_to_fit, cast_fits}
+use Rattle.source_fit.proofs.Values.{env_grows, older_fits, lookup_fits, assigned_fits, EntryFits, entry_fits, constant_fits, default_fits, returned_fits, given_by_fits, behind_fits, passed_result_fits, SendingFits, sent_fits, OperatedFits, operates_fit, operates_to_fit, cast_fits}
 
 abbrev Any : ℕ → Value → Type 0
 Any count value = Unit {0}
@@ -144,6 +146,18 @@ module _ (rules : Rules) (before : List Object) where
   moved : {A : Type 0} (good : ℕ → A → Type 0) (w after : World) (o : Out A) → after.store ≡ w.store → Keeps good (count_in after) o → Keeps good (count_in w) o
   moved good w after o is x = subst (λ (y : Store). Keeps good (length y.objects) o) is x
 
+  -- ---- the casts that are due
+
+  each_fits : (tos : List Ty) (value : Value) (s : State) (e : Env) → Here s e → ValueFits (count_in s.world) value → Keeps ValueFits (count_in s.world) (cast_each tos value s e)
+  each_fits [] value s e h f = done h f
+  each_fits (to ∷ tos) value s e h f =
+      then' (effect_fits _ s e h (casts_fit rules before s.world value to false h.0 f)) (λ value s e h more f. each_fits tos value s e h f)
+
+  due_fits : (due : List Ty) (value : Value) (s : State) (e : Env) → Here s e → ValueFits (count_in s.world) value → Keeps ValueFits (count_in s.world) (casts_due due value s e)
+  due_fits [] value s e h f = done h f
+  due_fits (from ∷ tos) value s e h f =
+      then' (found_fits (passed_result from value) s e h (passed_result_fits (count_in s.world) from value f)) (λ value s e h more f. each_fits tos value s e h f)
+
   module _ (funs : Programs) (limits : Limits) (m : Meaning) (ih : MeaningFits rules before m) where
     expr_ih : (t : Expr) (d : Place) (s : State) (e : Env) → Here s e → Keeps ValueFits (count_in s.world) (m.expr d s e t)
     expr_ih t d s e h = record { by = ih.expr t d s e h }
@@ -167,19 +181,21 @@ module _ (rules : Rules) (before : List Object) where
     backs of (Over limit w) n turns e h x = x
     backs of More n turns e h x = tt
 
-    enters : (c : Counted) (d : Place) (s : State) (e : Env) (of : Ty) (body : Stmts) (o : Option Env) → Here s e → EntryFits (count_in s.world) o → SameStore s.world c
-        → Keeps ValueFits (count_in s.world) (entered funs limits m c d s e of body o)
-    enters c d s e of body None h f p = record { by = tt }
-    enters (Passes limit w) d s e of body (Some args) h f p = record { by = same_world s.world w p h.0 }
-    enters (Counts w) d s e of body (Some args) h f p =
+    enters : (c : Counted) (text : Owner) (due : List Ty) (d : Place) (s : State) (e : Env) (of : Ty) (body : Stmts) (o : Option Env) → Here s e → EntryFits (count_in s.world) o → SameStore s.world c
+        → Keeps ValueFits (count_in s.world) (entered funs limits m c text due d s e of body o)
+    enters c text due d s e of body None h f p = record { by = tt }
+    enters (Passes limit w) text due d s e of body (Some args) h f p = record { by = same_world s.world w p h.0 }
+    enters (Counts w) text due d s e of body (Some args) h f p =
         let here : Here (record { world = w; turns = 0 }) args = (same_world s.world w p h.0, same_env s.world w args p f) in
-        moved ValueFits s.world w _ p
-        (record { by = backs of _ (count_in w) s.turns e (same_env s.world w e p h.1) (ih.stmts body (record { text = d.text; depth = suc d.depth }) (record { world = w; turns = 0 }) args here) })
+        let gives : Keeps ValueFits (count_in w) (back of (m.stmts (record { text = text; depth = suc d.depth }) (record { world = w; turns = 0 }) args body) s.turns e) =
+        record { by = backs of _ (count_in w) s.turns e (same_env s.world w e p h.1) (ih.stmts body (record { text = text; depth = suc d.depth }) (record { world = w; turns = 0 }) args here) } in
+        moved ValueFits s.world w _ p (then' gives (λ value s e h more f. due_fits due value s e h f))
 
-    calls : (o : Option Fun) (d : Place) (s : State) (e : Env) (values : List Value) → Here s e → AllFit (count_in s.world) values → Keeps ValueFits (count_in s.world) (called funs limits m o d s e values)
-    calls None d s e values h f = record { by = tt }
-    calls (Some g) d s e values h f =
-        enters (enter limits d.depth s.world) d s e g.result g.body (entry g.params values []) h (entry_fits (count_in s.world) g.params values [] f tt) (call_keeps limits d.depth s.world)
+    calls : (o : Option Fun) (c : Counted) (text : Owner) (due : List Ty) (d : Place) (s : State) (e : Env) (values : List Value) → Here s e → AllFit (count_in s.world) values → SameStore s.world c
+        → Keeps ValueFits (count_in s.world) (called funs limits m o c text due d s e values)
+    calls None c text due d s e values h f p = record { by = tt }
+    calls (Some g) c text due d s e values h f p =
+        enters c text due d s e g.result g.body (entry g.params values []) h (entry_fits (count_in s.world) g.params values [] f tt) p
 
     -- ---- members
 
@@ -193,7 +209,7 @@ module _ (rules : Rules) (before : List Object) where
     pays (Counts w) number arguments s e h f p =
         let here : Here (record { world = w; turns = s.turns }) e = (same_world s.world w p h.0, same_env s.world w e p h.1) in
         moved ValueFits s.world w _ p
-        (acts (does limits.host number arguments w.store) (record { world = w; turns = s.turns }) e here (members_fit rules before w limits.host number arguments here.0 (same_values s.world w arguments p f)))
+        (acts (does limits.ground.host number arguments w.store) (record { world = w; turns = s.turns }) e here (members_fit rules before w limits.ground.host number arguments here.0 (same_values s.world w arguments p f)))
 
     tests : (suits : Bool) (number : ℕ) (arguments : List Value) (d : Place) (s : State) (e : Env) → Here s e → AllFit (count_in s.world) arguments
         → Keeps ValueFits (count_in s.world) (tested funs limits m suits number arguments d s e)
@@ -205,7 +221,7 @@ module _ (rules : Rules) (before : List Object) where
     member_calls Unsent number t d s e h f = record { by = tt }
     member_calls OnNull number t d s e h f = effect_fits _ s e h (outcomes_fit rules before s.world outcomes.null_error h.0 tt)
     member_calls (Sends arguments) number t d s e h f = tests (suits_member s.world.store.objects t arguments) number arguments d s e h f
-    member_calls Reads number t d s e h f = acts (does limits.host number [] s.world.store) s e h (members_fit rules before s.world limits.host number [] h.0 tt)
+    member_calls Reads number t d s e h f = acts (does limits.ground.host number [] s.world.store) s e h (members_fit rules before s.world limits.ground.host number [] h.0 tt)
 
     allowed_members : (allowed : Bool) (number : ℕ) (values : List Value) (d : Place) (s : State) (e : Env) → Here s e → AllFit (count_in s.world) values
         → Keeps ValueFits (count_in s.world) (member_applied funs limits m allowed number values d s e)
@@ -264,7 +280,7 @@ module _ (rules : Rules) (before : List Object) where
     applies (operation.InstanceOf is) d s e of [] h f = record { by = tt }
     applies (operation.InstanceOf is) d s e of (a ∷ []) h f = done h tt
     applies (operation.InstanceOf is) d s e of (a ∷ b ∷ values) h f = record { by = tt }
-    applies (operation.Function k) d s e of values h f = calls (slice_get (functions_in funs d.text) k) d s e values h f
+    applies (operation.Function k) d s e of values h f = calls (slice_get (functions_in funs d.text) k) (enter limits d.depth s.world) d.text [] d s e values h f (call_keeps limits d.depth s.world)
     applies (operation.Instance member) d s e of values h f = members member values d s e h f
     applies (operation.Static member) d s e of values h f = members member values d s e h f
     applies (operation.Constructor member) d s e of values h f = members member values d s e h f

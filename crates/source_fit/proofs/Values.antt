@@ -46,7 +46,7 @@ use Rattle.run_fit.proofs.Values.{value_grows, MadeFits, AllMadeFit, by_primitiv
 use Rattle.source_meaning.specs.Tree.{Name, Variable}
 use Rattle.source_meaning.specs.Members.{Sending, Unsent, OnNull, Sends, Reads, passed_layer, passed_all, before as joined, sends, sends_to, sent_by, sent}
 use Rattle.source_meaning.specs.Meaning.{Env, Flow, Normal, Broke, Continued, Returned, lookup, assigned, entry, older, given_by, returned}
-use Rattle.source_meaning.specs.Operating.{Operated, Meaningless, Gives, Acts, value_of, number_given, number_operated, of_ints, of_longs, operands_of, of_flags, flag_operated, negated, of_references, reference_operated, of_any, passed_alike, ints_of, made_of, filled_of, read_at, written_if, written_at, of_one_value, operates, operates_to, from_int_to, from_long_to, from_byte_to, from_short_to, from_char_to, from_flag_to, number_cast, in_box, box_if, gives_if, text_if, unwrapped, casts}
+use Rattle.source_meaning.specs.Operating.{Operated, Meaningless, Gives, Acts, value_of, number_given, number_operated, of_ints, of_longs, operands_of, of_flags, flag_operated, negated, of_references, reference_operated, of_any, passed_alike, ints_of, made_of, filled_of, read_at, written_if, written_at, of_one_value, passed_result_layer, passed_result, operates, operates_to, from_int_to, from_long_to, from_byte_to, from_short_to, from_char_to, from_flag_to, number_cast, in_box, box_if, gives_if, text_if, unwrapped, casts}
 use Rattle.source_fit.specs.Outs.{EnvFits, FlowFits}
 
 -- ---- names
@@ -206,6 +206,18 @@ passed_layer_fits n Ty-F.Def value f = f
 passed_layer_fits n (Ty-F.Prim p) value f = in_box_fits n p value
 passed_layer_fits n (Ty-F.Class class) value f = f
 passed_layer_fits n (Ty-F.Array elem) value f = f
+
+result_layer_fits : (n : ℕ) (layer : Ty-F Ty) (value : Value) → ValueFits n value → MadeFits n (passed_result_layer layer value)
+result_layer_fits n Ty-F.Void value f = tt
+result_layer_fits n Ty-F.Null value f = f
+result_layer_fits n Ty-F.Def value f = f
+result_layer_fits n (Ty-F.Prim p) value f = in_box_fits n p value
+result_layer_fits n (Ty-F.Class class) value f = f
+result_layer_fits n (Ty-F.Array elem) value f = f
+
+-- .. and of what a function gives
+pub passed_result_fits : (n : ℕ) (of : Ty) (value : Value) → ValueFits n value → MadeFits n (passed_result of value)
+passed_result_fits n of value f = result_layer_fits n (out-Ty of) value f
 
 joined_fits : (n : ℕ) (value : Option Value) (values : Option (List Value)) → MadeFits n value → AllMadeFit n values → AllMadeFit n (joined value values)
 joined_fits n None None f g = tt

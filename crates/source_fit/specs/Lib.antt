@@ -1,4 +1,5 @@
 pub mod Outs
+pub mod ProgramRules
 pub mod Laws
 -- Definitions of the libraries below that clauses here speak of, passed on.
 pub use Rattle.source_meaning.specs.Falls

@@ -3,6 +3,7 @@ use Rattle.std.proofs.Common.{ℕ, zero, suc, ◌≤◌, List, [], ◌∷◌, �
 use Rattle.std.specs.Prelude.{slice_get, Bool, true, false, if◌then◌else◌}
 use Rattle.number_ops.specs.Operators.{is_null}
 use Rattle.pl_types.specs.declared.ty.Ty.{Ty}
+use Rattle.object_values.specs.declared.object.Owner.{Owner}
 use Rattle.object_values.specs.declared.value.Value.{Value}
 use Rattle.object_values.specs.declared.value.Value.TheVariants as v
 use Rattle.typed_tree.specs.declared.operation.Member.{Member}
@@ -96,15 +97,17 @@ record Grows (m other : Meaning) : Type 0 where
 
 module _ (funs : Programs) (limits : Limits) where
   module _ (m m' : Meaning) (ih : Grows m m') where
-    enters : (c : Counted) (d : Place) (s : State) (e : Env) (of : Ty) (body : Stmts) (o : Option Env)
-        → Up (entered funs limits m c d s e of body o) (entered funs limits m' c d s e of body o)
-    enters c d s e of body None = same
-    enters (Passes limit w) d s e of body (Some args) = same
-    enters (Counts w) d s e of body (Some args) = record { by = backs of _ _ s.turns e (ih.stmts body (record { text = d.text; depth = suc d.depth }) (record { world = w; turns = 0 }) args).by }
+    enters : (c : Counted) (text : Owner) (due : List Ty) (d : Place) (s : State) (e : Env) (of : Ty) (body : Stmts) (o : Option Env)
+        → Up (entered funs limits m c text due d s e of body o) (entered funs limits m' c text due d s e of body o)
+    enters c text due d s e of body None = same
+    enters (Passes limit w) text due d s e of body (Some args) = same
+    enters (Counts w) text due d s e of body (Some args) =
+        then' (record { by = backs of _ _ s.turns e (ih.stmts body (record { text = text; depth = suc d.depth }) (record { world = w; turns = 0 }) args).by }) (λ value s e. same)
 
-    calls : (o : Option Fun) (d : Place) (s : State) (e : Env) (values : List Value) → Up (called funs limits m o d s e values) (called funs limits m' o d s e values)
-    calls None d s e values = same
-    calls (Some f) d s e values = enters (enter limits d.depth s.world) d s e f.result f.body (entry f.params values [])
+    calls : (o : Option Fun) (c : Counted) (text : Owner) (due : List Ty) (d : Place) (s : State) (e : Env) (values : List Value)
+        → Up (called funs limits m o c text due d s e values) (called funs limits m' o c text due d s e values)
+    calls None c text due d s e values = same
+    calls (Some f) c text due d s e values = enters c text due d s e f.result f.body (entry f.params values [])
 
     members : (t : Member) (values : List Value) (d : Place) (s : State) (e : Env) → Up (of_member funs limits m t values d s e) (of_member funs limits m' t values d s e)
     members t values d s e = same
@@ -117,7 +120,7 @@ module _ (funs : Programs) (limits : Limits) where
     applies (operation.InstanceOf is) d s e of [] = same
     applies (operation.InstanceOf is) d s e of (a ∷ []) = same
     applies (operation.InstanceOf is) d s e of (a ∷ b ∷ values) = same
-    applies (operation.Function k) d s e of values = calls (slice_get (functions_in funs d.text) k) d s e values
+    applies (operation.Function k) d s e of values = calls (slice_get (functions_in funs d.text) k) (enter limits d.depth s.world) d.text [] d s e values
     applies (operation.Instance member) d s e of values = members member values d s e
     applies (operation.Static member) d s e of values = members member values d s e
     applies (operation.Constructor member) d s e of values = members member values d s e

@@ -23,6 +23,7 @@ use Rattle.run_state.specs.Calls.{suits_member, wrong_class}
 use Rattle.run_state.specs.World.{World, Limits, Limit, Room, Outcome, Given, Raised, Full, acts_in, Counted, Counts, Passes, allowed_in, has_loop_limit, take_turn, enter, pay_member}
 use Rattle.source_meaning.specs.Tree.{Name, Expr, Literal, Quoted, Local, Apply, Guarded, Logic, Conditional, Elvis, Assign, Modify, Lambda, Reference, NewReference, Exprs, None', One, Maybe, Missing, Given as Present, Stmt, Do, If, While, DoWhile, Try, Block, Break, Continue, Return, Throw, Stmts, Finish, Then, Declare, Catches, NoCatch, Catch, Variable, Fun, Programs, functions_in}
 use Rattle.number_ops.specs.Operators.{is_null}
+use Rattle.number_ops.specs.Casts.{cast_at_run_time}
 use Rattle.number_ops.specs.Relations.{is_instance, thrown}
 use Rattle.pl_units.specs.Utf16.{units}
 use Rattle.number_ops.specs.Outcomes as outcomes
@@ -34,7 +35,7 @@ use Rattle.def_access.specs.Members.{does}
 use Rattle.def_access.specs.Access.{Access, Calls, Acts as Does, index_read, index_written, name_read, name_written, method_called}
 pub use Rattle.def_access.specs.Types.{default_of}
 use Rattle.source_meaning.specs.Members.{Sending, Unsent, OnNull, Sends, Reads, sent}
-use Rattle.source_meaning.specs.Operating.{Operated, Meaningless, Gives, Acts, value_of, operates, operates_to, casts}
+use Rattle.source_meaning.specs.Operating.{Operated, Meaningless, Gives, Acts, value_of, operates, operates_to, casts, passed_result}
 
 -- the world, and how many turns this frame has had
 pub record State : Type 0 where
@@ -169,16 +170,30 @@ back of (Thrown id s' e') turns e = Thrown id (record { world = s'.world; turns 
 back of (Over limit w) turns e = Over limit w
 back of More turns e = More
 
-module _ (funs : Programs) (limits : Limits) (m : Meaning) where
-  abbrev pub entered : Counted → Place → State → Env → Ty → Stmts → Option Env → Out Value
-  entered counted d s e of body None = More
-  entered (Passes limit w) d s e of body (Some args) = Over limit w
-  entered (Counts w) d s e of body (Some args) =
-      back of (m.stmts (record { text = d.text; depth = suc d.depth }) (record { world = w; turns = 0 }) args body) s.turns e
+-- A value is cast to types, one after the other, each in the world that the one before it left.
+abbrev pub cast_each : List Ty → Value → State → Env → Out Value
+cast_each [] value s e = Done value s e
+cast_each (to ∷ tos) value s e =
+    bind (effect (acts_in s.world (outcomes.effect s.world.store (cast_at_run_time s.world.store.objects value to false))) s e) (λ value s e. cast_each tos value s e)
 
-  abbrev pub called : Option Fun → Place → State → Env → List Value → Out Value
-  called None d s e values = More
-  called (Some f) d s e values = entered (enter limits d.depth s.world) d s e f.result f.body (entry f.params values [])
+-- The casts that are due of what a function gives: none, or the type that it is of, and the types to which it is cast.
+abbrev pub casts_due : List Ty → Value → State → Env → Out Value
+casts_due [] value s e = Done value s e
+casts_due (from ∷ tos) value s e = bind (found (passed_result from value) s e) (λ value s e. cast_each tos value s e)
+
+module _ (funs : Programs) (limits : Limits) (m : Meaning) where
+  -- A body of a text, one deeper. The casts that are due are done in the caller.
+  abbrev pub entered : Counted → Owner → List Ty → Place → State → Env → Ty → Stmts → Option Env → Out Value
+  entered counted text due d s e of body None = More
+  entered (Passes limit w) text due d s e of body (Some args) = Over limit w
+  entered (Counts w) text due d s e of body (Some args) =
+      bind (back of (m.stmts (record { text = text; depth = suc d.depth }) (record { world = w; turns = 0 }) args body) s.turns e)
+      (λ value s e. casts_due due value s e)
+
+  -- a function of a text, whose call is counted so
+  abbrev pub called : Option Fun → Counted → Owner → List Ty → Place → State → Env → List Value → Out Value
+  called None counted text due d s e values = More
+  called (Some f) counted text due d s e values = entered counted text due d s e f.result f.body (entry f.params values [])
 
   -- what a member does, once its call is paid
   abbrev pub acted : Option Effect → State → Env → Out Value
@@ -187,7 +202,7 @@ module _ (funs : Programs) (limits : Limits) (m : Meaning) where
 
   abbrev pub paid : Counted → ℕ → List Value → State → Env → Out Value
   paid (Passes limit w) number arguments s e = Over limit w
-  paid (Counts w) number arguments s e = acted (does limits.host number arguments w.store) (record { world = w; turns = s.turns }) e
+  paid (Counts w) number arguments s e = acted (does limits.ground.host number arguments w.store) (record { world = w; turns = s.turns }) e
 
   -- a receiver or an argument of another class throws before the call is paid
   abbrev pub tested : Bool → ℕ → List Value → Place → State → Env → Out Value
@@ -199,7 +214,7 @@ module _ (funs : Programs) (limits : Limits) (m : Meaning) where
   member_called Unsent number t d s e = More
   member_called OnNull number t d s e = effect (acts_in s.world (outcomes.effect s.world.store outcomes.null_error)) s e
   member_called (Sends arguments) number t d s e = tested (suits_member s.world.store.objects t arguments) number arguments d s e
-  member_called Reads number t d s e = acted (does limits.host number [] s.world.store) s e
+  member_called Reads number t d s e = acted (does limits.ground.host number [] s.world.store) s e
 
   -- a call of a member, which is allowed
   abbrev pub member_applied : Bool → ℕ → List Value → Place → State → Env → Out Value
@@ -239,7 +254,7 @@ module _ (funs : Programs) (limits : Limits) (m : Meaning) where
   applied (operation.Operator o) d s e of values = operated (operates_to o of values s.world.store) s e
   applied (operation.Cast c) d s e of (value ∷ []) = operated (casts c of value s.world.store) s e
   applied (operation.InstanceOf of) d s e given (value ∷ []) = Done (v.Bool (is_instance s.world.store.objects value of)) s e
-  applied (operation.Function k) d s e of values = called (slice_get (functions_in funs d.text) k) d s e values
+  applied (operation.Function k) d s e of values = called (slice_get (functions_in funs d.text) k) (enter limits d.depth s.world) d.text [] d s e values
   applied (operation.Instance m) d s e of values = of_member m values d s e
   applied (operation.Static m) d s e of values = of_member m values d s e
   applied (operation.Constructor m) d s e of values = of_member m values d s e

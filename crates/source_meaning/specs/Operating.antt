@@ -223,6 +223,14 @@ passed_layer other value = Some value
 abbrev pub passed : Ty → Value → Option Value
 passed of value = passed_layer (out-Ty of) value
 
+-- What a function of a type gives, as a value: what gives nothing gives null.
+abbrev pub passed_result_layer : Ty-F Ty → Value → Option Value
+passed_result_layer Ty-F.Void value = Some v.Null
+passed_result_layer layer value = passed_layer layer value
+
+abbrev pub passed_result : Ty → Value → Option Value
+passed_result of value = passed_result_layer (out-Ty of) value
+
 abbrev pub before : Option Value → Option (List Value) → Option (List Value)
 before (Some value) (Some values) = Some (value ∷ values)
 before value values = None

@@ -110,7 +110,7 @@ abbrev pub variable_of : Named → Variable
 variable_of x = record { name = x.name; of = x.of }
 
 abbrev pub fun_of : TypedFunction → Fun
-fun_of f = record { captured = map variable_of f.captured; params = map variable_of f.parameters; result = f.result; body = stmts_of f.body }
+fun_of f = record { kind = f.kind; captured = map variable_of f.captured; params = map variable_of f.parameters; result = f.result; body = stmts_of f.body }
 
 -- The functions of a typed program, the main script first, by their numbers.
 abbrev pub program_of : typed.Program → Program

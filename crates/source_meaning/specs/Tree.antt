@@ -9,6 +9,7 @@ use Rattle.typed_tree.specs.declared.operation.Logical.{Logical}
 use Rattle.typed_tree.specs.declared.operation.Target.{Target}
 use Rattle.typed_tree.specs.declared.operation.Change.{Change}
 use Rattle.typed_tree.specs.declared.operation.Gives.{Gives}
+use Rattle.typed_tree.specs.declared.program.FunctionKind.{FunctionKind}
 
 -- a name, by its bytes
 abbrev pub Name : Type 0
@@ -70,6 +71,7 @@ pub record Variable : Type 0 where
 
 -- a function, a lambda or the main script: what it copies when it is made comes before its parameters
 pub record Fun : Type 0 where
+  pub kind : FunctionKind
   pub captured : List Variable
   pub params : List Variable
   pub result : Ty

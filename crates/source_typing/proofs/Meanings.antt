@@ -33,6 +33,7 @@ use Rattle.typed_tree.specs.declared.operation.Target.{Target}
 use Rattle.typed_tree.specs.declared.operation.Target.TheVariants as target
 use Rattle.typed_tree.specs.declared.operation.Change.{Change}
 use Rattle.typed_tree.specs.declared.operation.Gives.{Gives as Given_by}
+use Rattle.number_ops.specs.Casts.{cast_at_run_time}
 use Rattle.number_ops.specs.Operators.{is_null}
 use Rattle.number_ops.specs.Relations.{is_instance, thrown}
 use Rattle.number_ops.proofs.KindsOf.{kind_passes}
@@ -46,17 +47,18 @@ use Rattle.source_fit.proofs.Effects.{beginnings_fit, members_fit, throwing_fits
 use Rattle.value_typing.proofs.Leaving.{there_trans}
 use Rattle.value_typing.specs.Access.{Access, Calls as Finds, Acts as Does, index_read, index_written, name_read, name_written, method_called}
 use Rattle.source_fit.specs.Tree.{Name, Expr, Literal, Quoted, Local, Apply, Guarded, Logic, Conditional, Elvis, Assign, Modify, Lambda, Reference, NewReference, Exprs, None', One, Maybe, Missing, Given as Present, Stmt, Do, If, While, DoWhile, Try, Block, Break, Continue, Return, Throw, Stmts, Finish, Then, Declare, Catches, NoCatch, Catch, Variable, Fun, Programs, functions_in, type_of}
-use Rattle.source_fit.specs.Operating.{Operated, Meaningless, Gives, Acts, operates, operates_to, casts}
+use Rattle.source_fit.specs.Operating.{Operated, Meaningless, Gives, Acts, operates, operates_to, casts, passed_result}
 use Rattle.source_fit.specs.Members.{Sending, Unsent, OnNull, Sends, Reads, sent_by, sent}
-use Rattle.source_fit.specs.Meaning.{State, Env, Place, Out, Done, Thrown, Over, More, Flow, Normal, Broke, Continued, Returned, bind, leave, lookup, entry, found, effect, operated, choose, goes_next, goes_again, is_of_class, returned, back, Meaning, entered, called, acted, paid, tested, member_called, member_applied, of_member, accessed, method_applied, name_applied, name_put, index_applied, index_put, applied, logic, changed, modified, written, modified_at, given_by, expr_of, exprs_of, value_if, turned, done_turn, caught, handled, stmt_of, value_or, stmts_of, layer, meaning}
+use Rattle.source_fit.specs.Meaning.{State, Env, Place, Out, Done, Thrown, Over, More, Flow, Normal, Broke, Continued, Returned, bind, leave, lookup, entry, found, effect, operated, choose, goes_next, goes_again, is_of_class, returned, back, cast_each, casts_due, Meaning, entered, called, acted, paid, tested, member_called, member_applied, of_member, accessed, method_applied, name_applied, name_put, index_applied, index_put, applied, logic, changed, modified, written, modified_at, given_by, expr_of, exprs_of, value_if, turned, done_turn, caught, handled, stmt_of, value_or, stmts_of, layer, meaning}
+use Rattle.program_typing.proofs.Due.{DueOf, last_type, due_type}
 use Rattle.program_typing.specs.Agreeing.{Scope, IsVariable, boolean, types_of, Calls, TakesTypes, ReceiverIsOf, MemberAgrees, Applies, Changes, Writes, Reads as IsReadBy, ExprAgrees, ExprsAgree, TestAgrees, UpdateAgrees, BeginAgrees, ReturnAgrees, StmtAgrees, StmtsAgree, CatchesAgree, scope_of, FunAgrees, WellFormed, AreWellFormed, known_in}
 use Rattle.value_typing.proofs.Calls.{typed_calls_pass}
 use Rattle.source_typing.specs.Outs.{IsTyped, AreTyped, EnvTyped, StateTyped, FlowTyped, OutTyped}
 use Rattle.source_typing.specs.Laws.{MeaningTyped, MeaningsAreTyped, ResultsAreTyped}
 use Rattle.source_fit.proofs.Values.{OperatedFits, operates_to_fit}
 use Rattle.source_typing.proofs.Values.{typed_grows, all_grow, env_grows, all_there, typed_behind, MadeTyped, object_typed, lookup_typed, assigned_typed, older_typed, EntryTyped, entry_typed, null_typed, constant_typed, text_typed, flag_typed, default_typed, nothing_typed, returned_typed, given_by_typed}
-use Rattle.source_typing.proofs.Operations.{OutcomeIs, outcome_is, def_typed, OperatedIs, null_is, operates_is, node_is, casts_is, begins_is}
-use Rattle.source_typing.proofs.Members.{Taken, SendingTyped, sent_typed, DoneIs, found_is, member_is}
+use Rattle.source_typing.proofs.Operations.{OutcomeIs, outcome_is, def_typed, OperatedIs, null_is, cast_is, operates_is, node_is, casts_is, begins_is}
+use Rattle.source_typing.proofs.Members.{result_typed, Taken, SendingTyped, sent_typed, DoneIs, found_is, member_is}
 
 abbrev Any : List Object → Value → Type 0
 Any objects value = Unit {0}
@@ -181,6 +183,19 @@ module _ (rules : Rules) where
   moved : {A : Type 0} (good : List Object → A → Type 0) (g : Scope) (w after : World) (o : Out A) → after.store ≡ w.store → Keeps good after.store.objects g o → Keeps good w.store.objects g o
   moved good g w after o is x = subst (λ (y : Store). Keeps good y.objects g o) is x
 
+  -- ---- the casts that are due
+
+  each_typed : (of : Ty) (tos : List Ty) (value : Value) (s : State) (e : Env) (g : Scope) → Here g s e → IsTyped s.world.store.objects of value → Keeps (Of (last_type of tos)) s.world.store.objects g (cast_each tos value s e)
+  each_typed of [] value s e g h x = done h x
+  each_typed of (to ∷ tos) value s e g h x = then' (effect_typed to _ s e g h (cast_is rules s.world h.0 value to false x.there)) (λ value s e h there x. each_typed to tos value s e g h x)
+
+  due_typed : (of : Ty) (due : List Ty) (value : Value) (s : State) (e : Env) (g : Scope) → DueOf of due → Here g s e → IsTyped s.world.store.objects of value
+      → Keeps (Of (due_type of due)) s.world.store.objects g (casts_due due value s e)
+  due_typed of [] value s e g dues h x = done h x
+  due_typed of (from ∷ tos) value s e g dues h x =
+      then' (found_typed from (passed_result from value) s e g h (result_typed s.world.store.objects from value (subst (λ (of : Ty). IsTyped s.world.store.objects of value) (sym dues) x)))
+      (λ value s e h there x. each_typed from tos value s e g h x)
+
   module _ (every : rules.typed ≡ Every) (funs : Programs) (limits : Limits) (formed : (text : Owner) → WellFormed (known_in funs limits text)) (m : Meaning)
       (ih : MeaningTyped rules funs limits m) where
     expr_ih : (x : Expr) (d : Place) (s : State) (e : Env) (g : Scope) → ExprAgrees (known_in funs limits d.text) g x → Here g s e → Keeps (Of (type_of x)) s.world.store.objects g (m.expr d s e x)
@@ -213,23 +228,26 @@ module _ (rules : Rules) where
     backs of inner g start turns e (Over limit w) h x = x
     backs of inner g start turns e More h x = tt
 
-    enters : (c : Counted) (d : Place) (s : State) (e : Env) (g : Scope) (f : Fun) (o : Option Env) → FunAgrees (known_in funs limits d.text) f → Here g s e
-        → EntryTyped s.world.store.objects (scope_of f.params []) o → SameStore s.world c → Keeps (Of f.result) s.world.store.objects g (entered funs limits m c d s e f.result f.body o)
-    enters c d s e g f None a h x p = record { by = tt }
-    enters (Passes limit w) d s e g f (Some args) a h x p = record { by = passes_on s.world w p h.0 }
-    enters (Counts w) d s e g f (Some args) a h x p =
+    enters : (c : Counted) (text : Owner) (due : List Ty) (d : Place) (s : State) (e : Env) (g : Scope) (f : Fun) (o : Option Env) → FunAgrees (known_in funs limits text) f → DueOf f.result due → Here g s e
+        → EntryTyped s.world.store.objects (scope_of f.params []) o → SameStore s.world c
+        → Keeps (Of (due_type f.result due)) s.world.store.objects g (entered funs limits m c text due d s e f.result f.body o)
+    enters c text due d s e g f None a dues h x p = record { by = tt }
+    enters (Passes limit w) text due d s e g f (Some args) a dues h x p = record { by = passes_on s.world w p h.0 }
+    enters (Counts w) text due d s e g f (Some args) a dues h x p =
         let inner = same_state s.world w s.turns 0 (scope_of f.params []) args p (h.0, x) in
         let outer = same_state s.world w s.turns 0 g e p h in
-        moved (Of f.result) g s.world w _ p
-        (record { by = backs f.result (scope_of f.params []) g w.store.objects s.turns e _ outer.1 (ih.stmts f.body (record { text = d.text; depth = suc d.depth }) (record { world = w; turns = 0 }) args (scope_of f.params []) f.result false a.body inner) })
+        let gives : Keeps (Of f.result) w.store.objects g (back f.result (m.stmts (record { text = text; depth = suc d.depth }) (record { world = w; turns = 0 }) args f.body) s.turns e) =
+        record { by = backs f.result (scope_of f.params []) g w.store.objects s.turns e _ outer.1 (ih.stmts f.body (record { text = text; depth = suc d.depth }) (record { world = w; turns = 0 }) args (scope_of f.params []) f.result false a.body inner) } in
+        moved (Of (due_type f.result due)) g s.world w _ p (then' gives (λ value s e h there x. due_typed f.result due value s e g dues h x))
 
-    calls : (number : ℕ) (ofs : List Ty) (of : Ty) (d : Place) (s : State) (e : Env) (g : Scope) (values : List Value) → Calls (known_in funs limits d.text) number ofs of → Here g s e
-        → AreTyped s.world.store.objects ofs values → Keeps (Of of) s.world.store.objects g (called funs limits m (slice_get (functions_in funs d.text) number) d s e values)
-    calls number ofs of d s e g values c h x =
+    calls : (number : ℕ) (counted : Counted) (text : Owner) (due ofs : List Ty) (of : Ty) (d : Place) (s : State) (e : Env) (g : Scope) (values : List Value) → Calls (known_in funs limits text) number ofs of
+        → DueOf of due → Here g s e → AreTyped s.world.store.objects ofs values → SameStore s.world counted
+        → Keeps (Of (due_type of due)) s.world.store.objects g (called funs limits m (slice_get (functions_in funs text) number) counted text due d s e values)
+    calls number counted text due ofs of d s e g values c dues h x p =
         let args = entry_typed s.world.store.objects c.fun.params values [] [] (subst (λ (ofs : List Ty). AreTyped s.world.store.objects ofs values) c.takes x) tt in
-        subst (λ (found : Option Fun). Keeps (Of of) s.world.store.objects g (called funs limits m found d s e values)) (sym c.is)
-        (subst (λ (of : Ty). Keeps (Of of) s.world.store.objects g (called funs limits m (Some c.fun) d s e values)) (sym c.gives)
-        (enters (enter limits d.depth s.world) d s e g c.fun (entry c.fun.params values []) ((formed d.text).each number c.fun c.is) h args (call_keeps limits d.depth s.world)))
+        subst (λ (found : Option Fun). Keeps (Of (due_type of due)) s.world.store.objects g (called funs limits m found counted text due d s e values)) (sym c.is)
+        (subst (λ (of : Ty). Keeps (Of (due_type of due)) s.world.store.objects g (called funs limits m (Some c.fun) counted text due d s e values)) (sym c.gives)
+        (enters counted text due d s e g c.fun (entry c.fun.params values []) ((formed text).each number c.fun c.is) (subst (λ (of : Ty). DueOf of due) c.gives dues) h args p))
 
     -- ---- members
 
@@ -244,7 +262,7 @@ module _ (rules : Rules) where
     pays number arguments (Counts w) s e g h b x p =
         let here = same_state s.world w s.turns s.turns g e p h in
         moved (Of (member_at number).result) g s.world w _ p
-        (acts (member_at number).result (does limits.host number arguments w.store) (record { world = w; turns = s.turns }) e g here (member_is rules w limits.host number arguments here.0 b
+        (acts (member_at number).result (does limits.ground.host number arguments w.store) (record { world = w; turns = s.turns }) e g here (member_is rules w limits.ground.host number arguments here.0 b
         (subst (λ (y : Store). Taken y.objects (member_at number).kind (member_at number).owner (member_at number).params arguments) (sym p) x)))
 
     member_calls : (c : Sending) (number : ℕ) (d : Place) (s : State) (e : Env) (g : Scope) → Here g s e → is_built number ≡ true
@@ -256,7 +274,7 @@ module _ (rules : Rules) where
         subst (λ (suits : Bool). Keeps (Of (member_at number).result) s.world.store.objects g (tested funs limits m suits number arguments d s e))
         (sym (typed_calls_pass s.world.store.objects (member_at number) arguments x.takes))
         (pays number arguments (pay_member d.text number s.world) s e g h b x (member_keeps d.text number s.world))
-    member_calls Reads number d s e g h b x = acts (member_at number).result (does limits.host number [] s.world.store) s e g h (member_is rules s.world limits.host number [] h.0 b x)
+    member_calls Reads number d s e g h b x = acts (member_at number).result (does limits.ground.host number [] s.world.store) s e g h (member_is rules s.world limits.ground.host number [] h.0 b x)
 
     allowed_members : (allowed : Bool) (number : ℕ) (values : List Value) (d : Place) (s : State) (e : Env) (g : Scope) → Here g s e → is_built number ≡ true
         → SendingTyped s.world.store.objects (member_at number).kind (member_at number).owner (member_at number).params (sent (member_at number) values)
@@ -286,9 +304,9 @@ module _ (rules : Rules) where
     found_pays (Counts w) number arguments s e g h f p =
         let here = same_state s.world w s.turns s.turns g e p h in
         moved (Of t.Def) g s.world w _ p
-        (acts t.Def (does limits.host number arguments w.store) (record { world = w; turns = s.turns }) e g here
-        (found_is rules w.store.objects w (does limits.host number arguments w.store)
-        (members_fit rules w.store.objects w limits.host number arguments (begun w here.0) (subst (λ (x : Store). AllFit (length x.objects) arguments) (sym p) f))))
+        (acts t.Def (does limits.ground.host number arguments w.store) (record { world = w; turns = s.turns }) e g here
+        (found_is rules w.store.objects w (does limits.ground.host number arguments w.store)
+        (members_fit rules w.store.objects w limits.ground.host number arguments (begun w here.0) (subst (λ (x : Store). AllFit (length x.objects) arguments) (sym p) f))))
 
     accesses : (a : Access) (d : Place) (s : State) (e : Env) (g : Scope) → Here g s e → AccessFits rules s.world.store.objects s.world a → Keeps (Of t.Def) s.world.store.objects g (accessed funs limits m a d s e)
     accesses (Finds number arguments) d s e g h f = found_pays (pay_member d.text number s.world) number arguments s e g h f (member_keeps d.text number s.world)
@@ -352,7 +370,7 @@ module _ (rules : Rules) where
     applies (operation.InstanceOf is) (from ∷ []) of (value ∷ []) d s e g a h x = done h (flag_typed s.world.store.objects of (is_instance s.world.store.objects value is) a.2)
     applies (operation.InstanceOf is) (from ∷ []) of (value ∷ other ∷ values) d s e g a h x = absurd x.1
     applies (operation.InstanceOf is) (from ∷ other ∷ ofs) of values d s e g a h x = absurd a
-    applies (operation.Function number) ofs of values d s e g a h x = calls number ofs of d s e g values a h x
+    applies (operation.Function number) ofs of values d s e g a h x = calls number (enter limits d.depth s.world) d.text [] ofs of d s e g values a tt h x (call_keeps limits d.depth s.world)
     applies (operation.Instance member) [] of values d s e g a h x = absurd a.takes
     applies (operation.Instance member) (from ∷ ofs) of values d s e g a h x = members kind.Instance member (from ∷ ofs) of values d s e g a h x
     applies (operation.Static member) ofs of values d s e g a h x = members kind.Static member ofs of values d s e g a h x

@@ -22,6 +22,7 @@ use Rattle.value_typing.specs.RunFitLaws.{DoneFits}
 use Rattle.value_typing.specs.Worlds.{count_in}
 use Rattle.source_fit.proofs.Effects.{beginnings_fit, members_fit}
 use Rattle.source_fit.specs.Operating.{in_box}
+use Rattle.source_fit.specs.Operating.{passed_result_layer, passed_result}
 use Rattle.source_fit.specs.Members.{Sending, Unsent, OnNull, Sends, Reads, passed_layer, passed, before as joined, passed_all, sends, sends_to, sent_by}
 use Rattle.program_typing.specs.Agreeing.{TakesTypes, ReceiverIsOf}
 use Rattle.value_typing.specs.Typing.{is_typed_layer, is_typed, takes_typed_by, OutcomeTyped, EffectIsOf, ActIsOf}
@@ -74,6 +75,18 @@ passed_typed objects of value Ty-F.Def e h = h
 passed_typed objects of value (Ty-F.Prim p) e h = boxed_typed objects of p (in_box p value) e (box_made p value)
 passed_typed objects of value (Ty-F.Class class) e h = h
 passed_typed objects of value (Ty-F.Array elem) e h = h
+
+result_typed_layer : (objects : List Object) (of : Ty) (value : Value) (l : Ty-F Ty) → out-Ty of ≡ l → IsTyped objects of value → MadeTyped objects of (passed_result_layer l value)
+result_typed_layer objects of value Ty-F.Void e h = record { there = tt; is = of_layer objects of Ty-F.Void v.Null e refl }
+result_typed_layer objects of value Ty-F.Null e h = h
+result_typed_layer objects of value Ty-F.Def e h = h
+result_typed_layer objects of value (Ty-F.Prim p) e h = passed_typed objects of value (Ty-F.Prim p) e h
+result_typed_layer objects of value (Ty-F.Class class) e h = h
+result_typed_layer objects of value (Ty-F.Array elem) e h = h
+
+-- what a function gives, as casts take it
+pub result_typed : (objects : List Object) (of : Ty) (value : Value) → IsTyped objects of value → MadeTyped objects of (passed_result of value)
+result_typed objects of value h = result_typed_layer objects of value (out-Ty of) refl h
 
 joined_typed : (objects : List Object) (of : Ty) (ofs : List Ty) (value : Option Value) (values : Option (List Value)) → MadeTyped objects of value → AllMadeTyped objects ofs values
     → AllMadeTyped objects (of ∷ ofs) (joined value values)

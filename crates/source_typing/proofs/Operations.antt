@@ -14,7 +14,7 @@ use Rattle.object_values.specs.declared.object.Object.{Object}
 use Rattle.object_values.specs.declared.value.Value.{Value}
 use Rattle.object_values.specs.declared.value.Value.TheVariants as v
 use Rattle.object_heap.specs.Effects.{Effect, Gives as Gives_value, Throws, NoRoom}
-use Rattle.object_heap.specs.Fits.{kinds, Rules, Fits, ThrownFits, Typed, Every, layer_asked, is_primitive}
+use Rattle.object_heap.specs.Fits.{kinds, Rules, Fits, ValueFits, ThrownFits, Typed, Every, layer_asked, is_primitive}
 use Rattle.object_heap.specs.Objects.{Kind}
 use Rattle.object_heap.specs.Store.{Store}
 use Rattle.value_typing.specs.Types.{element_of}
@@ -32,7 +32,7 @@ use Rattle.number_ops.specs.Operators.{compares, is_unary, operate}
 use Rattle.number_ops.specs.Outcomes.{effect, null_error}
 use Rattle.run_state.specs.World.{World, Outcome, Given, Raised, Full, acts_in}
 use Rattle.value_typing.specs.Worlds.{WorldFits, count_in, OutcomeFits}
-use Rattle.source_fit.proofs.Effects.{beginnings_fit, outcomes_fit}
+use Rattle.source_fit.proofs.Effects.{beginnings_fit, outcomes_fit, casts_fit as run_time_fits}
 use Rattle.value_typing.proofs.Values.{by_primitive}
 use Rattle.source_fit.specs.Operating.{Operated, Meaningless, Gives, Acts, operates, operates_to, reference_operated, of_any, passed_alike, ints_of, made_of, filled_of, read_at, of_one_value, from_int_to, from_long_to, from_byte_to, from_short_to, from_char_to, from_flag_to, number_cast, in_box, box_if, gives_if, unwrapped, text_if, casts}
 use Rattle.source_fit.proofs.Values.{OperatedFits, operates_fit, operates_to_fit, cast_fits}
@@ -397,6 +397,12 @@ module _ (rules : Rules) (w : World) (f : Fits rules w.store.objects) where
   null_is of =
       outcome_is rules w.store.objects (count_in w) of (acts_in w (effect w.store null_error)) (outcomes_fit rules w.store.objects w null_error here tt)
       (in_world of w (effect w.store null_error) (settled (out-Ty of) w.store null_error tt))
+
+  -- a cast at run time
+  pub cast_is : (value : Value) (to : Ty) (explicit : Bool) → ValueFits (count_in w) value → OutcomeIs rules w.store.objects to (acts_in w (effect w.store (cast_at_run_time w.store.objects value to explicit)))
+  cast_is value to explicit h =
+      outcome_is rules w.store.objects (count_in w) to (acts_in w (effect w.store (cast_at_run_time w.store.objects value to explicit))) (run_time_fits rules w.store.objects w value to explicit here h)
+      (casts_give_types w value to explicit)
 
   pub operates_is : (o : Operator) (ofs : List Ty) (of : Ty) (values : List Value) → Takes o ofs of → AreTyped w.store.objects ofs values → OperatedIs of (operates o values w.store)
   operates_is o ofs of values x h = operated_is of (operates o values w.store) (operates_fit rules w.store.objects w here o values) (operator_types w o ofs of values x (all_are w.store.objects ofs values h))

@@ -11,6 +11,7 @@ use Rattle.run_state.specs.World.{World, Limits}
 use Rattle.source_fit.specs.Tree.{Expr, Exprs, Stmt, Stmts, Fun, Programs, type_of}
 use Rattle.source_fit.specs.Operating.{operates, operates_to, casts}
 use Rattle.source_fit.specs.Meaning.{State, Env, Place, Meaning, entry, meaning}
+use Rattle.source_fit.specs.ProgramRules.{FitsProgram, rules_of}
 use Rattle.program_typing.specs.Types.{Takes, TakesTo, Casts}
 use Rattle.value_typing.specs.Typing.{is_typed, are_typed}
 use Rattle.program_typing.specs.Agreeing.{Scope, types_of, types_in, scope_of, ExprAgrees, ExprsAgree, StmtAgrees, StmtsAgree, AreWellFormed, known_in}
@@ -55,4 +56,13 @@ ResultsAreTyped =
     → (w : World) (arguments : List Value) → Fits rules w.store.objects → AreTyped w.store.objects (types_in main.params) arguments
     → (e : Env) → entry main.params arguments [] ≡ Some e
     → OutTyped (FlowTyped main.result) rules w.store.objects (scope_of main.params [])
+    ((meaning funs limits bound).stmts (record { text = Script; depth = 0 }) (record { world = w; turns = 0 }) e main.body)
+
+-- So from a store that fits its program it leaves one that does.
+abbrev pub MainsAreTyped : Type 0
+MainsAreTyped =
+    (funs : Programs) (limits : Limits) (bound : ℕ) → AreWellFormed funs limits → (main : Fun) → slice_get funs.script 0 ≡ Some main
+    → (w : World) (arguments : List Value) → FitsProgram funs w.store → AreTyped w.store.objects (types_in main.params) arguments
+    → (e : Env) → entry main.params arguments [] ≡ Some e
+    → OutTyped (FlowTyped main.result) (rules_of funs) w.store.objects (scope_of main.params [])
     ((meaning funs limits bound).stmts (record { text = Script; depth = 0 }) (record { world = w; turns = 0 }) e main.body)

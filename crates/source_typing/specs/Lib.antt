@@ -7,6 +7,7 @@ pub use Rattle.program_typing.specs.Types
 pub use Rattle.source_fit.specs.Falls
 pub use Rattle.source_fit.specs.Meaning
 pub use Rattle.source_fit.specs.Outs as SourceFitOuts
+pub use Rattle.source_fit.specs.ProgramRules
 pub use Rattle.source_fit.specs.Programs
 pub use Rattle.source_fit.specs.Tree
 pub use Rattle.value_typing.specs.ContainerCallsMembers

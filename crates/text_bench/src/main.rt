@@ -4,7 +4,7 @@
 
 use api_text::call;
 use object_heap::{Answer, Heap};
-use object_values::{Elements, Object, Value};
+use object_values::{Elements, Object, Seed, Value};
 use pl_units::UText;
 use std::alloc::{AllocError, Global};
 use std::rt::Clock;
@@ -118,7 +118,7 @@ fn main(rt: HostRuntime) -> io::Result<()> {
         return Ok(());
     }
     let alloc = rt.alloc();
-    let mut heap = Heap::new(alloc, u64::MAX);
+    let mut heap = Heap::new(alloc, u64::MAX, Seed::of(b"bench"));
     let _ = heap.place(Object::Builder {
         units: Elements::new(alloc),
     });

@@ -62,5 +62,5 @@ beside p prelude = record { script = program_of p; prelude = prelude }
 abbrev pub TypingKeepsTypes : Type 0
 TypingKeepsTypes =
     (allow : AllowList) (context : ContextTypes) (tree : Tree) (p : Program) → IsContext context → typing_of allow context tree ≡ Ok p
-    → (prelude : source.Program) (limits : Limits) → limits.allowed ≡ allow → WellFormed (known limits.prelude_allowed prelude) → (rules : Rules) (bound : ℕ) → rules.typed ≡ Every
+    → (prelude : source.Program) (limits : Limits) → limits.ground.allowed ≡ allow → WellFormed (known limits.ground.prelude_allowed prelude) → (rules : Rules) (bound : ℕ) → rules.typed ≡ Every
     → MeaningTyped rules (beside p prelude) limits (meaning (beside p prelude) limits bound)

@@ -1,5 +1,5 @@
 -- Steps of walks over lists.
-use Rattle.std.proofs.Common.{◌≡◌, ◌≢◌, ℕ, zero, suc, ◌+◌, ◌-◌, ◌<◌, Option, Some, List, ◌∷◌, length, drop, get_or, slice_get, refl, ap, Bool, true, false, is_some, if◌then◌else◌, arith, add-one, drop-cons}
+use Rattle.std.proofs.Common.{◌≡◌, ◌≢◌, ℕ, zero, suc, ◌+◌, ◌-◌, ◌<◌, ◌∙◌, Option, Some, List, ◌∷◌, length, drop, get_or, slice_get, refl, ap, Bool, true, false, is_some, if◌then◌else◌, arith, add-one, drop-cons}
 use Rattle.std.proofs.lemmas.Bool.Decides.{nat_tests}
 use Rattle.std.proofs.lemmas.Option.{slice_get_within, get_or_from_slice_get}
 use Rattle.object_values.specs.declared.object.Object.{Object}
@@ -7,7 +7,7 @@ use Rattle.object_values.specs.declared.value.Value.{Value}
 use Rattle.object_values.specs.declared.value.Value.TheVariants as v
 use Rattle.object_values.specs.Pairs.{value_of}
 use Rattle.value_walks.specs.declared.equality.Walked.{Walked}
-use Rattle.value_walks.specs.Equality.{contents_equal, equal_at, has_keys, pairs_equal, found_equal, and_then}
+use Rattle.value_walks.specs.Equality.{EntriesCompareAsObjects, contents_equal, equal_at, equal_entries_of, equal_of, has_keys, pairs_equal, found_equal, and_then, with_visit}
 
 -- from a place on there is the item at the place, and what is behind it
 pub got : {A : Type 0} → (xs : List A) (at : ℕ) (x : A) → slice_get xs at ≡ Some x → drop at xs ≡ x ∷ drop (at + 1) xs
@@ -25,6 +25,20 @@ visit_refs (suc levels) (suc visits) objects x y h k d =
     let l : suc levels - 1 ≡ levels = omega arith in
     let n : suc visits - 1 ≡ visits = omega arith in
     rw (l, n) (grind (arith, nat_tests))
+
+pub one_visit : (further : ℕ → Walked) (visits : ℕ) → visits ≢ 0 → with_visit further visits ≡ further (visits - 1)
+one_visit further zero h = absurd (h refl)
+one_visit further (suc visits) h =
+    let n : suc visits - 1 ≡ visits = omega arith in
+    rw n refl
+
+-- two entries that are objects
+pub entries_compare_as_objects : EntriesCompareAsObjects
+unfolding equal_of equal_entries_of
+entries_compare_as_objects objects x y map key other_map other_key zero d h k = refl
+entries_compare_as_objects objects x y map key other_map other_key (suc visits) d h k =
+    let n : suc visits - 1 ≡ visits = omega arith in
+    visit_refs 100 (suc visits) objects x y (omega arith) (omega arith) d ∙ rw (h, k, n) refl
 
 -- one key more, and one pair more
 pub key_step : (pairs other : List (Value × Value)) (at : ℕ) (pair : Value × Value) → slice_get pairs at ≡ Some pair

@@ -1,5 +1,5 @@
 -- Deep equality: a walk over pairs of values, at most so many levels deep and with so many visits.
-use Rattle.std.specs.Prelude.{ℕ, zero, suc, ◌==◌, Bool, true, false, Option, Some, None, List, [], ◌∷◌, length, slice_get, is_some, if◌then◌else◌}
+use Rattle.std.specs.Prelude.{◌≡◌, ◌≢◌, ℕ, zero, suc, ◌==◌, Bool, true, false, Option, Some, None, List, [], ◌∷◌, length, slice_get, is_some, if◌then◌else◌}
 use Rattle.object_values.specs.declared.object.Object.{Object}
 use Rattle.object_values.specs.declared.object.Object.TheVariants as o
 use Rattle.object_values.specs.declared.object.Part.{Part}
@@ -65,11 +65,14 @@ value_or (Some value) other = value
 abbrev pub value_now : List Object → ℕ → Value → Value
 value_now objects map key = value_or (value_of (pairs_of objects map) key) v.Null
 
--- entries are equal where their keys are, and then their values now
+-- entries, each by its map and its key, are equal where their keys are, and then their values now
+abbrev pub both_equal : (Value → Value → ℕ → Walked) → List Object → ℕ → Value → ℕ → Value → ℕ → Walked
+both_equal equal objects map key other_map other_key visits =
+    and_then (equal key other_key visits) (equal (value_now objects map key) (value_now objects other_map other_key))
+
 abbrev pub entries_equal : (Value → Value → ℕ → Walked) → List Object → ℕ → Value → Option (ℕ × Value) → ℕ → Walked
 entries_equal equal objects map key None visits = On false visits
-entries_equal equal objects map key (Some other) visits =
-    and_then (equal key other.1 visits) (equal (value_now objects map key) (value_now objects other.0 other.1))
+entries_equal equal objects map key (Some other) visits = both_equal equal objects map key other.0 other.1 visits
 
 -- what an object is compared with
 abbrev pub list_in : Object → Option (List Value)
@@ -131,3 +134,14 @@ equal_at (suc levels) objects a b visits = with_visit (visit (equal_at levels ob
 -- deep equality: at most 100 levels, and so many visits
 unfoldable pub equal_of : List Object → Value → Value → ℕ → Walked
 equal_of objects a b visits = equal_at 100 objects a b visits
+
+-- Deep equality of two entries, each by its map and its key, of which one is no object: the two are a visit at level 1, and their keys
+-- and their values now are compared at level 2
+unfoldable pub equal_entries_of : List Object → ℕ → Value → ℕ → Value → ℕ → Walked
+equal_entries_of objects map key other_map other_key visits = with_visit (both_equal (equal_at 99 objects) objects map key other_map other_key) visits
+
+-- so they are equal, or the walk stops, as with two entries that are objects
+abbrev pub EntriesCompareAsObjects : Type 0
+EntriesCompareAsObjects = (objects : List Object) (x y map : ℕ) (key : Value) (other_map : ℕ) (other_key : Value) (visits : ℕ) → x ≢ y
+    → slice_get objects x ≡ Some (o.Entry map key) → slice_get objects y ≡ Some (o.Entry other_map other_key)
+    → equal_of objects (v.Ref x) (v.Ref y) visits ≡ equal_entries_of objects map key other_map other_key visits

@@ -1,5 +1,5 @@
 -- The text of a value: a walk over the values that it writes, at most so many levels deep and with so many visits.
-use Rattle.std.specs.Prelude.{◌≡◌, ℕ, zero, suc, Bool, true, false, Option, Some, None, Result, Ok, Err, List, [], ◌∷◌, ◌++◌, codes, slice_get}
+use Rattle.std.specs.Prelude.{◌≡◌, ℕ, zero, suc, ◌<◌, ◌≤◌, Bool, true, false, Option, Some, None, Result, Ok, Err, List, [], ◌∷◌, ◌++◌, codes, length, slice_get}
 use Rattle.std.specs.Fmt.{signed_decimal}
 use Rattle.pl_units.specs.Utf16.{units}
 use Rattle.pl_types.specs.Classes.{full_name, short_name}
@@ -16,6 +16,8 @@ use Rattle.value_walks.specs.declared.error.TextErr.{TextErr}
 use Rattle.value_walks.specs.declared.error.TextErr.TheVariants.{Deep, Large, NoMemory}
 use Rattle.value_walks.specs.declared.keyed.Shown.{Shown}
 use Rattle.value_walks.specs.declared.keyed.Shown.TheVariants.{Keys, Values, Entries, Pairs}
+use Rattle.value_walks.specs.declared.outputs.Output.{Output}
+use Rattle.value_walks.specs.Outputs.{put}
 
 -- a text, with the visits that are left; or why the walk stopped
 pub data Text : Type 0 where
@@ -40,9 +42,21 @@ follow (Wrote text visits) further = before text (further visits)
 follow TooDeep further = TooDeep
 follow TooLarge further = TooLarge
 
--- what the code says of a walk whose text it put behind the old one
-abbrev pub Writes : Text → List ℕ → List ℕ → Result ℕ TextErr → Type 0
-Writes walk old new (Ok visits) = before old walk ≡ Wrote new visits
+-- how far a walk came: what its text made of an output, with the visits that are left; or why it stopped
+pub data Progress : Type 0 where
+  Came : (output : Output) (visits : ℕ) → Progress
+  EndedDeep : Progress
+  EndedLarge : Progress
+
+-- a walk whose text is written
+abbrev pub written : Output → Text → Progress
+written output (Wrote text visits) = Came (put output text) visits
+written output TooDeep = EndedDeep
+written output TooLarge = EndedLarge
+
+-- what the code says of a walk whose text it wrote
+abbrev pub Writes : Text → Output → Output → Result ℕ TextErr → Type 0
+Writes walk old new (Ok visits) = written old walk ≡ Came new visits
 Writes walk old new (Err Deep) = walk ≡ TooDeep
 Writes walk old new (Err Large) = walk ≡ TooLarge
 Writes walk old new (Err NoMemory) = Unit {0}
@@ -53,6 +67,20 @@ Gives walk (Ok text) = (visits : ℕ) × (walk ≡ Wrote text visits)
 Gives walk (Err Deep) = walk ≡ TooDeep
 Gives walk (Err Large) = walk ≡ TooLarge
 Gives walk (Err NoMemory) = Unit {0}
+
+-- a walk that does not stop, and writes more units than so many
+abbrev pub IsLonger : ℕ → Text → Type 0
+IsLonger room (Wrote text visits) = room < length text
+IsLonger room TooDeep = ⊥
+IsLonger room TooLarge = ⊥
+
+-- What the code says of a walk whose text it gives, if there is room for it. That it stops is told first
+abbrev pub GivesWithin : ℕ → Text → Result (Option (List ℕ)) TextErr → Type 0
+GivesWithin room walk (Ok (Some text)) = (visits : ℕ) × (walk ≡ Wrote text visits) × (length text ≤ room)
+GivesWithin room walk (Ok None) = IsLonger room walk
+GivesWithin room walk (Err Deep) = walk ≡ TooDeep
+GivesWithin room walk (Err Large) = walk ≡ TooLarge
+GivesWithin room walk (Err NoMemory) = Unit {0}
 
 -- what stands before the item at a place
 abbrev pub separator : ℕ → List ℕ

@@ -2,7 +2,7 @@
 ghost use Rattle.std.specs.Prelude.{◌≡◌, Option, slice_get};
 ghost use Rattle.std.specs.Option.{option_copied};
 ghost use Rattle.value_walks.specs.Equality as spec;
-ghost use Rattle.value_walks.specs.Equality.{equal_of, value_or, keys_in};
+ghost use Rattle.value_walks.specs.Equality.{equal_entries_of, equal_of, value_or, keys_in};
 ghost use Rattle.object_values.specs.Pairs.{value_of};
 ghost use Rattle.object_heap.specs.Parts.{pairs_of};
 
@@ -33,6 +33,26 @@ pub fn equal(heap: &Heap, a: &Value, b: &Value, budget: u64) -> Walked
     ensures { result ≡ equal_of heap.now.objects a.now b.now budget }
 {
     equal_at(heap, LEVELS, a, b, budget)
+}
+
+/// Whether two entries are equal, each of which goes by its map and its key, so that neither need be an object: as [`equal`] finds of
+/// two objects, by a walk that visits the two at level 1, and then their keys and the values that they have now at level 2. The
+/// answers are those of [`equal`].
+#[tactic(auto, using(crate::proofs::Stepping::one_visit), unfolding(crate::specs::Equality::equal_entries_of))]
+pub fn equal_entries(
+    heap: &Heap,
+    map: u32,
+    key: &Value,
+    other_map: u32,
+    other_key: &Value,
+    budget: u64,
+) -> Walked
+    ensures { result ≡ equal_entries_of heap.now.objects map key.now other_map other_key.now budget }
+{
+    if budget == 0 {
+        return Walked::Large;
+    }
+    both_equal(heap, LEVELS - 1, map, key, other_map, other_key, budget - 1)
 }
 
 // Compares two values, at so many levels and so many visits.
@@ -156,7 +176,7 @@ fn found_equal(
     }
 }
 
-// Compares two entries: their keys, and then the values that their maps have now.
+// Compares an entry with an object.
 #[cycle(equality)]
 fn entries_equal(
     heap: &Heap,
@@ -172,18 +192,34 @@ fn entries_equal(
         Object::Entry {
             map: other_map,
             key: other_key,
-        } => match equal_at(heap, levels, key, other_key, visits) {
-            Walked::On(true, rest) => {
-                let null = Value::Null;
-                let value = value_now(heap, map, key, &null);
-                let other_value = value_now(heap, *other_map, other_key, &null);
-                equal_at(heap, levels, value, other_value, rest)
-            }
-            Walked::On(false, rest) => Walked::On(false, rest),
-            Walked::Deep => Walked::Deep,
-            Walked::Large => Walked::Large,
-        },
+        } => both_equal(heap, levels, map, key, *other_map, other_key, visits),
         _ => Walked::On(false, visits),
+    }
+}
+
+// Compares two entries, each by its map and its key: their keys, and then the values that their maps have now.
+#[cycle(equality)]
+fn both_equal(
+    heap: &Heap,
+    levels: u32,
+    map: u32,
+    key: &Value,
+    other_map: u32,
+    other_key: &Value,
+    visits: u64,
+) -> Walked
+    ensures { result ≡ spec.both_equal (spec.equal_at levels heap.now.objects) heap.now.objects map key.now other_map other_key.now visits }
+{
+    match equal_at(heap, levels, key, other_key, visits) {
+        Walked::On(true, rest) => {
+            let null = Value::Null;
+            let value = value_now(heap, map, key, &null);
+            let other_value = value_now(heap, other_map, other_key, &null);
+            equal_at(heap, levels, value, other_value, rest)
+        }
+        Walked::On(false, rest) => Walked::On(false, rest),
+        Walked::Deep => Walked::Deep,
+        Walked::Large => Walked::Large,
     }
 }
 

@@ -6,13 +6,15 @@ mod equality;
 mod error;
 mod keyed;
 mod laws;
+mod outputs;
 mod words;
 mod writing;
 
-pub use equality::{Walked, equal};
+pub use equality::{Walked, equal, equal_entries};
 pub use error::TextErr;
-pub use laws::walk_limits;
-pub use writing::{push_entry, push_text, text};
+pub use laws::{entries_compare_as_objects, walk_limits};
+pub use outputs::Output;
+pub use writing::{push_entry, push_text, text, text_within, text_written};
 
 /// How many levels deep a walk goes at most.
 pub const LEVELS: u32 = 100;

@@ -1,50 +1,41 @@
 //! Texts that are written behind others.
-ghost use Rattle.std.specs.Prelude.{◌≡◌, ◌++◌, OnOk, IfOk, IfErr};
+ghost use Rattle.std.specs.Prelude.{◌≡◌, OnOk, IfOk, IfErr};
 ghost use Rattle.std.specs.Fmt.{signed_decimal};
 ghost use Rattle.std.specs.Option.{option_copied};
 ghost use Rattle.pl_units.specs.Utf16.{units};
 ghost use Rattle.pl_types.specs.Texts.{names_of};
+ghost use Rattle.value_walks.specs.Outputs.{put};
 ghost use Rattle.value_walks.specs.Texts.{flag_text, interface_text, exception_text};
 
 use crate::error::TextErr;
+use crate::outputs::Output;
 use pl_types::{ClassNames, Ty, push_type};
 use pl_units::{UText, decimal};
 use std::alloc::{AllocError, Global};
-
-/// Writes units.
-pub fn write(out: &mut Vec<u16>, units: &[u16]) -> Result<(), TextErr>
-    ensures ok { OnOk result (out.new.items ≡ out.old.items ++ units.now) }
-    ensures err { IfErr result (λ cause. cause ≡ TextErr.NoMemory) }
-{
-    match out.extend_from_slice(units) {
-        Ok(()) => Ok(()),
-        Err(_) => Err(TextErr::NoMemory),
-    }
-}
 
 const TRUE: [u16; 4] = [116, 114, 117, 101];
 
 const FALSE: [u16; 5] = [102, 97, 108, 115, 101];
 
 /// Writes a truth value.
-pub fn write_flag(out: &mut Vec<u16>, flag: bool) -> Result<(), TextErr>
-    ensures ok { OnOk result (out.new.items ≡ out.old.items ++ flag_text flag) }
+pub fn write_flag(out: &mut Output, flag: bool) -> Result<(), TextErr>
+    ensures ok { OnOk result (out.new ≡ put out.old (flag_text flag)) }
     ensures err { IfErr result (λ cause. cause ≡ TextErr.NoMemory) }
 {
     if flag {
-        write(out, &TRUE)
+        out.write(&TRUE)
     } else {
-        write(out, &FALSE)
+        out.write(&FALSE)
     }
 }
 
 /// Writes a number in decimal.
-pub fn write_number(alloc: Global, out: &mut Vec<u16>, number: i64) -> Result<(), TextErr>
-    ensures ok { OnOk result (out.new.items ≡ out.old.items ++ signed_decimal number) }
+pub fn write_number(alloc: Global, out: &mut Output, number: i64) -> Result<(), TextErr>
+    ensures ok { OnOk result (out.new ≡ put out.old (signed_decimal number)) }
     ensures err { IfErr result (λ cause. cause ≡ TextErr.NoMemory) }
 {
     match decimal(alloc, number) {
-        Ok(text) => write(out, text.units()),
+        Ok(text) => out.write(text.units()),
         Err(_) => Err(TextErr::NoMemory),
     }
 }
@@ -61,15 +52,15 @@ fn class_text(alloc: Global, class: u32, names: ClassNames) -> Result<UText, All
 /// Writes the name of a class.
 pub fn write_class(
     alloc: Global,
-    out: &mut Vec<u16>,
+    out: &mut Output,
     class: u32,
     names: ClassNames,
 ) -> Result<(), TextErr>
-    ensures ok { OnOk result (out.new.items ≡ out.old.items ++ units (names_of names class)) }
+    ensures ok { OnOk result (out.new ≡ put out.old (units (names_of names class))) }
     ensures err { IfErr result (λ cause. cause ≡ TextErr.NoMemory) }
 {
     match class_text(alloc, class, names) {
-        Ok(text) => write(out, text.units()),
+        Ok(text) => out.write(text.units()),
         Err(_) => Err(TextErr::NoMemory),
     }
 }
@@ -79,33 +70,33 @@ const LAMBDA: [u16; 6] = [108, 97, 109, 98, 100, 97];
 /// Writes the name of a function value's interface.
 pub fn write_interface(
     alloc: Global,
-    out: &mut Vec<u16>,
+    out: &mut Output,
     interface: Option<u32>,
 ) -> Result<(), TextErr>
-    ensures ok { OnOk result (out.new.items ≡ out.old.items ++ interface_text interface) }
+    ensures ok { OnOk result (out.new ≡ put out.old (interface_text interface)) }
     ensures err { IfErr result (λ cause. cause ≡ TextErr.NoMemory) }
 {
     match interface {
         Some(class) => write_class(alloc, out, class, ClassNames::Short),
-        None => write(out, &LAMBDA),
+        None => out.write(&LAMBDA),
     }
 }
 
 /// Writes the class of an exception, and its message.
 pub fn write_exception(
     alloc: Global,
-    out: &mut Vec<u16>,
+    out: &mut Output,
     class: u32,
     message: Option<&UText>,
 ) -> Result<(), TextErr>
-    ensures ok { OnOk result (out.new.items ≡ out.old.items ++ exception_text class (option_copied message.entry)) }
+    ensures ok { OnOk result (out.new ≡ put out.old (exception_text class (option_copied message.entry))) }
     ensures err { IfErr result (λ cause. cause ≡ TextErr.NoMemory) }
 {
     write_class(alloc, out, class, ClassNames::Full)?;
     match message {
         Some(message) => {
-            write(out, &[58, 32])?;
-            write(out, message.units())
+            out.write(&[58, 32])?;
+            out.write(message.units())
         }
         None => Ok(()),
     }

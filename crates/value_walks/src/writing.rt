@@ -1,17 +1,18 @@
 //! The text of a value.
-ghost use Rattle.std.specs.Prelude.{◌≡◌, ◌++◌, OnOk, IfErr, IfOk, Option};
+ghost use Rattle.std.specs.Prelude.{◌≡◌, [], OnOk, IfErr, Option, ℕ};
 ghost use Rattle.std.specs.Option.{option_copied};
 ghost use Rattle.object_heap.specs.Parts.{pairs_in};
+ghost use Rattle.value_walks.specs.declared.outputs.Output.{Output};
+ghost use Rattle.value_walks.specs.Outputs.{put};
 ghost use Rattle.value_walks.specs.Texts as spec;
-ghost use Rattle.value_walks.specs.Texts.{AValue, AnEntry, Writes, Gives, text_of, entry_text_of};
+ghost use Rattle.value_walks.specs.Texts.{AValue, AnEntry, Writes, Gives, GivesWithin, text_of, entry_text_of};
 
 use crate::LEVELS;
 use crate::equality::value_now;
 use crate::error::TextErr;
 use crate::keyed::{Shown, item_at, pair_at, shown_of};
-use crate::words::{
-    write, write_class, write_exception, write_flag, write_interface, write_number,
-};
+use crate::outputs::Output;
+use crate::words::{write_class, write_exception, write_flag, write_interface, write_number};
 use object_heap::Heap;
 use object_values::{Object, Pairs, Value};
 use pl_types::ClassNames;
@@ -24,39 +25,52 @@ use pl_units::UText;
 /// an iterator and a function value by the short name of the class, `Iterator` or the interface, and `lambda` where it has no
 /// interface. Keys are visited too, and so is each entry of a view of entries, one level below the view.
 ///
-/// `Deep` is a visit below level 100, and `Large` one more than the budget; the first is told where both hold. `NoMemory`: there
-/// was none for the text.
+/// None where the text is of more units than there is `room` for: then it is not made. `Deep` is a visit below level 100, and
+/// `Large` one more than the budget, whatever the text's length; the first is told where both hold. `NoMemory`: there was none for
+/// the text.
+pub fn text_within(
+    heap: &Heap,
+    value: &Value,
+    budget: u64,
+    room: u64,
+) -> Result<Option<UText>, TextErr>
+    ensures { GivesWithin room (text_of heap.now.objects value.now budget) result }
+{
+    let mut out = Output::new(heap.alloc(), room);
+    let walked = push_text(heap, value, budget, &mut out);
+    text_written(out, walked)
+}
+
+/// The text of a value, whatever its length. The errors are those of [`text_within`]. (There is no memory for more units than a number
+/// counts.)
+#[tactic(auto, using(crate::proofs::Behind::given_whole, crate::proofs::Behind::stopped_whole))]
 pub fn text(heap: &Heap, value: &Value, budget: u64) -> Result<UText, TextErr>
     ensures { Gives (text_of heap.now.objects value.now budget) result }
 {
-    let mut out = Vec::new(heap.alloc());
-    match push_text(heap, value, budget, &mut out) {
-        Ok(_) => text_of_units(out),
+    match text_within(heap, value, budget, u64::MAX) {
+        Ok(Some(text)) => Ok(text),
+        Ok(None) => Err(TextErr::NoMemory),
         Err(cause) => Err(cause),
     }
 }
 
-// The text of units that were written.
-fn text_of_units(units: Vec<u16>) -> Result<UText, TextErr>
-    ensures ok { IfOk result (λ text. text ≡ units.items) }
-    ensures err { IfErr result (λ cause. cause ≡ TextErr.NoMemory) }
+/// The text of a walk that alone was written to an output, by what the walk answered: none where it is of more units than there was
+/// room for. The errors are the walk's; `NoMemory`: there was none for the text.
+#[tactic(auto, using(crate::proofs::Behind::given_within, crate::proofs::Behind::stopped_within))]
+pub fn text_written(out: Output, walked: Result<u64, TextErr>) -> Result<Option<UText>, TextErr>
+    ensures { (room : ℕ) (walk : spec.Text) → Writes walk (Output.Kept [] room) out walked → GivesWithin room walk result }
 {
-    match UText::from_units(units) {
-        Ok(text) => Ok(text),
-        Err(_) => Err(TextErr::NoMemory),
+    match walked {
+        Ok(_) => out.text(),
+        Err(cause) => Err(cause),
     }
 }
 
 /// Writes the text of a value behind what is there, and gives the visits that are left. After an error some of it may stand there.
-/// The errors are those of [`text`].
+/// The errors are those of [`text_within`].
 #[tactic(auto, unfolding(crate::specs::Texts::text_of))]
-pub fn push_text(
-    heap: &Heap,
-    value: &Value,
-    budget: u64,
-    out: &mut Vec<u16>,
-) -> Result<u64, TextErr>
-    ensures { Writes (text_of heap.now.objects value.now budget) out.old.items out.new.items result }
+pub fn push_text(heap: &Heap, value: &Value, budget: u64, out: &mut Output) -> Result<u64, TextErr>
+    ensures { Writes (text_of heap.now.objects value.now budget) out.old out.new result }
 {
     value_at(heap, LEVELS, value, budget, out)
 }
@@ -69,9 +83,9 @@ pub fn push_entry(
     key: &Value,
     value: &Value,
     budget: u64,
-    out: &mut Vec<u16>,
+    out: &mut Output,
 ) -> Result<u64, TextErr>
-    ensures { Writes (entry_text_of heap.now.objects key.now value.now budget) out.old.items out.new.items result }
+    ensures { Writes (entry_text_of heap.now.objects key.now value.now budget) out.old out.new result }
 {
     entry_at(heap, LEVELS, key, value, budget, out)
 }
@@ -83,9 +97,9 @@ fn value_at(
     levels: u32,
     value: &Value,
     visits: u64,
-    out: &mut Vec<u16>,
+    out: &mut Output,
 ) -> Result<u64, TextErr>
-    ensures { Writes (spec.node_at levels heap.now.objects (AValue value.now) visits) out.old.items out.new.items result }
+    ensures { Writes (spec.node_at levels heap.now.objects (AValue value.now) visits) out.old out.new result }
 {
     if levels == 0 {
         return Err(TextErr::Deep);
@@ -104,9 +118,9 @@ fn entry_at(
     key: &Value,
     value: &Value,
     visits: u64,
-    out: &mut Vec<u16>,
+    out: &mut Output,
 ) -> Result<u64, TextErr>
-    ensures { Writes (spec.node_at levels heap.now.objects (AnEntry key.now value.now) visits) out.old.items out.new.items result }
+    ensures { Writes (spec.node_at levels heap.now.objects (AnEntry key.now value.now) visits) out.old out.new result }
 {
     if levels == 0 {
         return Err(TextErr::Deep);
@@ -123,9 +137,9 @@ fn value_text(
     levels: u32,
     value: &Value,
     visits: u64,
-    out: &mut Vec<u16>,
+    out: &mut Output,
 ) -> Result<u64, TextErr>
-    ensures { Writes (spec.value_text (spec.node_at levels heap.now.objects) heap.now.objects value.now visits) out.old.items out.new.items result }
+    ensures { Writes (spec.value_text (spec.node_at levels heap.now.objects) heap.now.objects value.now visits) out.old out.new result }
 {
     match value {
         Value::Ref(id) => match heap.get(*id) {
@@ -139,18 +153,18 @@ fn value_text(
 const NULL: [u16; 4] = [110, 117, 108, 108];
 
 // The text of a value that is no object.
-fn plain_text(heap: &Heap, value: &Value, visits: u64, out: &mut Vec<u16>) -> Result<u64, TextErr>
-    ensures { Writes (spec.plain_text value.now visits) out.old.items out.new.items result }
+fn plain_text(heap: &Heap, value: &Value, visits: u64, out: &mut Output) -> Result<u64, TextErr>
+    ensures { Writes (spec.plain_text value.now visits) out.old out.new result }
 {
     match value {
-        Value::Null => write(out, &NULL)?,
+        Value::Null => out.write(&NULL)?,
         Value::Bool(flag) => write_flag(out, *flag)?,
         Value::Byte(number) => write_number(heap.alloc(), out, i64::from(*number))?,
         Value::Short(number) => write_number(heap.alloc(), out, i64::from(*number))?,
-        Value::Char(unit) => write(out, &[*unit])?,
+        Value::Char(unit) => out.write(&[*unit])?,
         Value::Int(number) => write_number(heap.alloc(), out, i64::from(*number))?,
         Value::Long(number) => write_number(heap.alloc(), out, *number)?,
-        Value::Str(text) => write(out, text.units())?,
+        Value::Str(text) => out.write(text.units())?,
         Value::Ref(_) => {}
     }
     Ok(visits)
@@ -162,9 +176,9 @@ fn object_text(
     levels: u32,
     object: &Object,
     visits: u64,
-    out: &mut Vec<u16>,
+    out: &mut Output,
 ) -> Result<u64, TextErr>
-    ensures { Writes (spec.object_text (spec.node_at levels heap.now.objects) heap.now.objects object.now visits) out.old.items out.new.items result }
+    ensures { Writes (spec.object_text (spec.node_at levels heap.now.objects) heap.now.objects object.now visits) out.old out.new result }
 {
     match object {
         Object::List { items, .. } => list_text(heap, levels, items.as_slice(), visits, out),
@@ -188,12 +202,12 @@ fn object_text(
 }
 
 // The text of an object that shows no other value.
-fn name_text(heap: &Heap, object: &Object, visits: u64, out: &mut Vec<u16>) -> Result<u64, TextErr>
-    ensures { Writes (spec.name_text object.now visits) out.old.items out.new.items result }
+fn name_text(heap: &Heap, object: &Object, visits: u64, out: &mut Output) -> Result<u64, TextErr>
+    ensures { Writes (spec.name_text object.now visits) out.old out.new result }
 {
     match object {
         Object::Iter { .. } => write_class(heap.alloc(), out, ITERATOR, ClassNames::Short)?,
-        Object::Builder { units } => write(out, units.as_slice())?,
+        Object::Builder { units } => out.write(units.as_slice())?,
         Object::Fun { iface, .. } => write_interface(heap.alloc(), out, *iface)?,
         Object::Exc { class, message } => {
             write_exception(heap.alloc(), out, *class, message.as_ref())?
@@ -210,12 +224,12 @@ fn pair_text(
     key: &Value,
     value: &Value,
     visits: u64,
-    out: &mut Vec<u16>,
+    out: &mut Output,
 ) -> Result<u64, TextErr>
-    ensures { Writes (spec.pair_text (spec.node_at levels heap.now.objects) key.now value.now visits) out.old.items out.new.items result }
+    ensures { Writes (spec.pair_text (spec.node_at levels heap.now.objects) key.now value.now visits) out.old out.new result }
 {
     let rest = value_at(heap, levels, key, visits, out)?;
-    write(out, &[61])?;
+    out.write(&[61])?;
     value_at(heap, levels, value, rest, out)
 }
 
@@ -225,13 +239,13 @@ fn list_text(
     levels: u32,
     items: &[Value],
     visits: u64,
-    out: &mut Vec<u16>,
+    out: &mut Output,
 ) -> Result<u64, TextErr>
-    ensures { Writes (spec.list_text (spec.node_at levels heap.now.objects) items.now visits) out.old.items out.new.items result }
+    ensures { Writes (spec.list_text (spec.node_at levels heap.now.objects) items.now visits) out.old out.new result }
 {
-    write(out, &[91])?;
+    out.write(&[91])?;
     let rest = items_text(heap, levels, items, visits, out)?;
-    write(out, &[93])?;
+    out.write(&[93])?;
     Ok(rest)
 }
 
@@ -241,9 +255,9 @@ fn items_text(
     levels: u32,
     items: &[Value],
     visits: u64,
-    out: &mut Vec<u16>,
+    out: &mut Output,
 ) -> Result<u64, TextErr>
-    ensures { Writes (spec.items_text (λ value. spec.node_at levels heap.now.objects (AValue value)) items.now visits) out.old.items out.new.items result }
+    ensures { Writes (spec.items_text (λ value. spec.node_at levels heap.now.objects (AValue value)) items.now visits) out.old out.new result }
 {
     let mut rest = visits;
     for at in 0..items.len() {
@@ -257,15 +271,11 @@ fn items_text(
 }
 
 // Writes a comma before each item but the first.
-fn separate(out: &mut Vec<u16>, at: usize) -> Result<(), TextErr>
-    ensures ok { OnOk result (out.new.items ≡ out.old.items ++ spec.separator at) }
+fn separate(out: &mut Output, at: usize) -> Result<(), TextErr>
+    ensures ok { OnOk result (out.new ≡ put out.old (spec.separator at)) }
     ensures err { IfErr result (λ cause. cause ≡ TextErr.NoMemory) }
 {
-    if at > 0 {
-        write(out, &[44, 32])
-    } else {
-        Ok(())
-    }
+    if at > 0 { out.write(&[44, 32]) } else { Ok(()) }
 }
 
 // What is shown of the pairs of a map or a set.
@@ -276,9 +286,9 @@ fn keyed_text(
     shown: Shown,
     pairs: Option<&Pairs>,
     visits: u64,
-    out: &mut Vec<u16>,
+    out: &mut Output,
 ) -> Result<u64, TextErr>
-    ensures { Writes (spec.keyed_text (spec.node_at levels heap.now.objects) shown (pairs_in (option_copied pairs.entry)) visits) out.old.items out.new.items result }
+    ensures { Writes (spec.keyed_text (spec.node_at levels heap.now.objects) shown (pairs_in (option_copied pairs.entry)) visits) out.old out.new result }
 {
     write_opening(out, shown)?;
     let rest = pairs_text(heap, levels, shown, pairs, visits, out)?;
@@ -293,9 +303,9 @@ fn pairs_text(
     shown: Shown,
     pairs: Option<&Pairs>,
     visits: u64,
-    out: &mut Vec<u16>,
+    out: &mut Output,
 ) -> Result<u64, TextErr>
-    ensures { Writes (spec.items_text (spec.shown_text (spec.node_at levels heap.now.objects) shown) (pairs_in (option_copied pairs.entry)) visits) out.old.items out.new.items result }
+    ensures { Writes (spec.items_text (spec.shown_text (spec.node_at levels heap.now.objects) shown) (pairs_in (option_copied pairs.entry)) visits) out.old out.new result }
 {
     match pairs {
         Some(pairs) => all_pairs_text(heap, levels, shown, pairs, visits, out),
@@ -310,9 +320,9 @@ fn all_pairs_text(
     shown: Shown,
     pairs: &Pairs,
     visits: u64,
-    out: &mut Vec<u16>,
+    out: &mut Output,
 ) -> Result<u64, TextErr>
-    ensures { Writes (spec.items_text (spec.shown_text (spec.node_at levels heap.now.objects) shown) pairs.now visits) out.old.items out.new.items result }
+    ensures { Writes (spec.items_text (spec.shown_text (spec.node_at levels heap.now.objects) shown) pairs.now visits) out.old out.new result }
 {
     let mut rest = visits;
     for at in 0..pairs.len() {
@@ -333,9 +343,9 @@ fn shown_text(
     key: &Value,
     value: &Value,
     visits: u64,
-    out: &mut Vec<u16>,
+    out: &mut Output,
 ) -> Result<u64, TextErr>
-    ensures { Writes (spec.shown_text (spec.node_at levels heap.now.objects) shown (key.now, value.now) visits) out.old.items out.new.items result }
+    ensures { Writes (spec.shown_text (spec.node_at levels heap.now.objects) shown (key.now, value.now) visits) out.old out.new result }
 {
     match shown {
         Shown::Keys => value_at(heap, levels, key, visits, out),
@@ -345,22 +355,22 @@ fn shown_text(
     }
 }
 
-fn write_opening(out: &mut Vec<u16>, shown: Shown) -> Result<(), TextErr>
-    ensures ok { OnOk result (out.new.items ≡ out.old.items ++ spec.opening shown) }
+fn write_opening(out: &mut Output, shown: Shown) -> Result<(), TextErr>
+    ensures ok { OnOk result (out.new ≡ put out.old (spec.opening shown)) }
     ensures err { IfErr result (λ cause. cause ≡ TextErr.NoMemory) }
 {
     match shown {
-        Shown::Keys | Shown::Values | Shown::Entries => write(out, &[91]),
-        Shown::Pairs => write(out, &[123]),
+        Shown::Keys | Shown::Values | Shown::Entries => out.write(&[91]),
+        Shown::Pairs => out.write(&[123]),
     }
 }
 
-fn write_closing(out: &mut Vec<u16>, shown: Shown) -> Result<(), TextErr>
-    ensures ok { OnOk result (out.new.items ≡ out.old.items ++ spec.closing shown) }
+fn write_closing(out: &mut Output, shown: Shown) -> Result<(), TextErr>
+    ensures ok { OnOk result (out.new ≡ put out.old (spec.closing shown)) }
     ensures err { IfErr result (λ cause. cause ≡ TextErr.NoMemory) }
 {
     match shown {
-        Shown::Keys | Shown::Values | Shown::Entries => write(out, &[93]),
-        Shown::Pairs => write(out, &[125]),
+        Shown::Keys | Shown::Values | Shown::Entries => out.write(&[93]),
+        Shown::Pairs => out.write(&[125]),
     }
 }

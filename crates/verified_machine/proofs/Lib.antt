@@ -6,3 +6,4 @@ pub mod Fitted
 pub use Rattle.machine.proofs.Steps
 pub use Rattle.machine.proofs.Turning
 pub use Rattle.machine.proofs.Words
+pub use Rattle.verifier_soundness.proofs.Beside

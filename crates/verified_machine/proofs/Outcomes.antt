@@ -75,7 +75,7 @@ module _ (allow : AllowList) where
 
 -- ---- where a run begins
 
-begins : (allow : AllowList) (code : List FunCode) (limits : Limits) (args : List Word) (w : World) → IsWellShapedCode allow code → limits.allowed ≡ allow → HaveRows allow code → kinds_of args ≡ main_params code → ReachesAllowed allow w
+begins : (allow : AllowList) (code : List FunCode) (limits : Limits) (args : List Word) (w : World) → IsWellShapedCode allow code → limits.ground.allowed ≡ allow → HaveRows allow code → kinds_of args ≡ main_params code → ReachesAllowed allow w
     → Keeps allow code limits 0 (start (codes_alone code) args w) × (false ≡ is_over (Some (start (codes_alone code) args w)))
 begins allow [] limits args w well under rows params reached = let some = well.some in absurd (omega (arith, some))
 begins allow (f ∷ fs) limits args w well under rows params reached = (

@@ -35,7 +35,7 @@ code_under e = record { code = e.code; allow = e.allow }
 -- count its steps.
 pub record Keeps (allow : AllowList) (code : List FunCode) (limits : Limits) (steps : ℕ) (n : Next) : Type 0 where
   pub well : IsWellShapedCode allow code
-  pub under : limits.allowed ≡ allow
+  pub under : limits.ground.allowed ≡ allow
   pub rows : HaveRows allow code
   pub fits : FitsNext allow code limits n
   pub counts : steps < 2 ^ 64

@@ -29,8 +29,8 @@ use Rattle.verifier_soundness.proofs.Throwing.{done_moves, effect_moves}
 use Rattle.verifier_soundness.proofs.Calls.{MemberPaid, fewer_ticks, member_is_paid, sooner}
 
 module _ (allow : AllowList) (code prelude : List FunCode) (limits : Limits) (well : IsWellShapedCode allow code) (function : FunCode) (f : Frame) (below : List Frame) (i : Instruction) (s : StandsIn allow code function (frame_kinds f) i) (goes : flow_of i ≡ flow.GoesOn) where
-  does_something : (number : ℕ) (arguments : List Value) (w : World) → is_built number ≡ true → is_some (does limits.host number arguments w.store) ≡ true
-  does_something number arguments w built = built_act limits.host number arguments w.store ∙ (λ i. built i || is_of_host number)
+  does_something : (number : ℕ) (arguments : List Value) (w : World) → is_built number ≡ true → is_some (does limits.ground.host number arguments w.store) ≡ true
+  does_something number arguments w built = built_act limits.ground.host number arguments w.store ∙ (λ i. built i || is_of_host number)
 
   paid_here : (w w' : World) → Here allow code limits function f below w → MemberPaid allow code limits w (Counts w') → Here allow code limits function f below w'
   paid_here w w' here paid = record { fits = here.fits; due = here.due; text = here.text; belows = here.belows; within = here.within; reached = paid.1 }
@@ -46,9 +46,9 @@ module _ (allow : AllowList) (code prelude : List FunCode) (limits : Limits) (we
       → (c : Counted) → MemberPaid allow code limits w c → Moves allow code limits (left_at code limits f below w) (on_found_paid (codes_of code prelude) limits c number arguments f below stack)
   found_paid_moves w here number arguments stack built kinds (Passes limit w') paid = paid
   found_paid_moves w here number arguments stack built kinds (Counts w') paid =
-      sooner allow code limits (left_at code limits f below w') (left_at code limits f below w) (on_found (codes_of code prelude) limits (does limits.host number arguments w'.store) f below w' stack)
+      sooner allow code limits (left_at code limits f below w') (left_at code limits f below w) (on_found (codes_of code prelude) limits (does limits.ground.host number arguments w'.store) f below w' stack)
       (fewer_ticks allow code limits f below w w' paid.0)
-      (found_moves w' (paid_here w w' here paid) stack (does limits.host number arguments w'.store) (does_something number arguments w' built) kinds)
+      (found_moves w' (paid_here w w' here paid) stack (does limits.ground.host number arguments w'.store) (does_something number arguments w' built) kinds)
 
   pub access_moves : (w : World) → Here allow code limits function f below w → (stack : List Word) (a : Access) → IsConfined allow a → slot.R ∷ kinds_of stack ≡ s.left
       → Moves allow code limits (left_at code limits f below w) (on_access (codes_of code prelude) limits a f below w stack)
@@ -67,9 +67,9 @@ module _ (allow : AllowList) (code prelude : List FunCode) (limits : Limits) (we
       → (c : Counted) → MemberPaid allow code limits w c → Moves allow code limits (left_at code limits f below w) (on_put_paid (codes_of code prelude) limits c number arguments f below stack)
   put_paid_moves w here number arguments stack built kinds (Passes limit w') paid = paid
   put_paid_moves w here number arguments stack built kinds (Counts w') paid =
-      sooner allow code limits (left_at code limits f below w') (left_at code limits f below w) (on_put (codes_of code prelude) limits (does limits.host number arguments w'.store) f below w' stack)
+      sooner allow code limits (left_at code limits f below w') (left_at code limits f below w) (on_put (codes_of code prelude) limits (does limits.ground.host number arguments w'.store) f below w' stack)
       (fewer_ticks allow code limits f below w w' paid.0)
-      (put_moves w' (paid_here w w' here paid) stack (does limits.host number arguments w'.store) (does_something number arguments w' built) kinds)
+      (put_moves w' (paid_here w w' here paid) stack (does limits.ground.host number arguments w'.store) (does_something number arguments w' built) kinds)
 
   pub write_moves : (w : World) → Here allow code limits function f below w → (stack : List Word) (a : Access) → IsConfined allow a → kinds_of stack ≡ s.left
       → Moves allow code limits (left_at code limits f below w) (on_write (codes_of code prelude) limits a f below w stack)

@@ -38,7 +38,7 @@ module _ (allow : AllowList) (code prelude : List FunCode) (limits : Limits) (we
   begin_locals g args e = map-append kind_of args (map start_of g.locals) ∙ (λ i. e i ++ starts_are g.locals i)
 
   entered : (function g : FunCode) (k : ℕ) (f : Frame) (below : List Frame) (w : World) (args others : List Word) → Here allow code limits function f below w → Entering function g k f below args others
-      → (c : Counted) → EntersSo limits (depth_of below) w c → Moves allow code limits (left_at code limits f below w) (on_enter (codes_of code prelude) limits c k g [] f below w args others)
+      → (c : Counted) → EntersSo limits (depth_of below) w c → Moves allow code limits (left_at code limits f below w) (on_enter (codes_of code prelude) limits c f.text k g [] f below w args others)
   entered function g k f below w args others here x (Passes limit w') so = same_reached allow code limits w w' so here.reached
   entered function g k f below w args others here x (Counts w') so =
       let good = well.each k g x.is in
@@ -73,7 +73,7 @@ module _ (allow : AllowList) (code prelude : List FunCode) (limits : Limits) (we
       let params : kinds_of t.words ≡ g.params = t.kinds ∙ append-nil (reverse (reverse g.params)) ∙ reverse-reverse g.params in
       let left : result_kinds g.result ++ kinds_of t.others ≡ s.left = ap (λ ks. result_kinds g.result ++ ks) t.left ∙ x.left_so in
       let awaits = fits_with allow code limits function (frame_kinds f) (f.line + 1) s.left (result_kinds g.result ++ kinds_of t.others) (s.goes (f.line + 1) (same_line (flow_of i) f.line goes)) left in
-      subst (λ o. Moves allow code limits (left_at code limits f below w) (on_words o (λ args stack. on_enter (codes_of code prelude) limits (enter limits (depth_of below) w) k g [] f below w args stack))) (sym took)
+      subst (λ o. Moves allow code limits (left_at code limits f below w) (on_words o (λ args stack. on_enter (codes_of code prelude) limits (enter limits (depth_of below) w) f.text k g [] f below w args stack))) (sym took)
       (entered function g k f below w t.words t.others here (record { is = is; params = params; awaits = awaits }) (enter limits (depth_of below) w) (call_is_paid limits (depth_of below) w))
 
   -- ---- returns

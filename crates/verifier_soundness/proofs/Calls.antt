@@ -125,17 +125,17 @@ module _ (allow : AllowList) (code prelude : List FunCode) (limits : Limits) (we
 
   does_move : (w : World) → Here allow code limits function f below w → (number : ℕ) (stack : List Word) (arguments : List Value) → Rowed number
       → kind_of_type (member_at number).result ∷ kinds_of stack ≡ s.left
-      → Moves allow code limits (left_at code limits f below w) (on_act (codes_of code prelude) limits (does limits.host number arguments w.store) (member_at number) f below w stack)
+      → Moves allow code limits (left_at code limits f below w) (on_act (codes_of code prelude) limits (does limits.ground.host number arguments w.store) (member_at number) f below w stack)
   does_move w here number stack arguments r kinds =
-      acts_move w here (member_at number) stack (does limits.host number arguments w.store) (built_act limits.host number arguments w.store ∙ (λ i. r.built i || is_of_host number))
-      (act_gives limits.host number (member_at number) arguments w.store r.stands) kinds
+      acts_move w here (member_at number) stack (does limits.ground.host number arguments w.store) (built_act limits.ground.host number arguments w.store ∙ (λ i. r.built i || is_of_host number))
+      (act_gives limits.ground.host number (member_at number) arguments w.store r.stands) kinds
 
   paid_moves : (w : World) → Here allow code limits function f below w → (number : ℕ) (stack : List Word) (arguments : List Value) → Rowed number
       → kind_of_type (member_at number).result ∷ kinds_of stack ≡ s.left → (c : Counted) → MemberPaid allow code limits w c
       → Moves allow code limits (left_at code limits f below w) (on_paid (codes_of code prelude) limits c number arguments (member_at number) f below stack)
   paid_moves w here number stack arguments r kinds (Passes limit w') paid = paid
   paid_moves w here number stack arguments r kinds (Counts w') paid =
-      sooner allow code limits (left_at code limits f below w') (left_at code limits f below w) (on_act (codes_of code prelude) limits (does limits.host number arguments w'.store) (member_at number) f below w' stack)
+      sooner allow code limits (left_at code limits f below w') (left_at code limits f below w) (on_act (codes_of code prelude) limits (does limits.ground.host number arguments w'.store) (member_at number) f below w' stack)
       (fewer_ticks allow code limits f below w w' paid.0)
       (does_move w' (record { fits = here.fits; due = here.due; text = here.text; belows = here.belows; within = here.within; reached = paid.1 }) number stack arguments r kinds)
 

@@ -19,3 +19,4 @@ mod Steps
 pub mod Runs
 pub mod Sizes
 mod Rowless
+pub mod Beside

@@ -52,7 +52,7 @@ all_starts_fit c prelude limits f words w s is params reached = starts_fit c.all
 
 -- ---- never stuck
 
-module _ (allow : AllowList) (code prelude : List FunCode) (limits : Limits) (well : IsWellShapedCode allow code) (under : limits.allowed ≡ allow) (rows : HaveRows allow code) where
+module _ (allow : AllowList) (code prelude : List FunCode) (limits : Limits) (well : IsWellShapedCode allow code) (under : limits.ground.allowed ≡ allow) (rows : HaveRows allow code) where
   moved_fits : (from : ℕ) (n : Next) → Moves allow code limits from n → FitsNext allow code limits n
   moved_fits from (Goes c) m = m.fits
   moved_fits from (Ends r) m = m
@@ -109,12 +109,12 @@ runs_end c prelude limits from s under rows fits =
 abbrev started : FunCode → List Word → World → Config
 started g words w = record { top = record { text = Script; fun = 0; line = 0; locals = words ++ map start_of g.locals; stack = []; turns = 0; due = [] }; below = []; world = w }
 
-start_ends : (allow : AllowList) (code prelude : List FunCode) (limits : Limits) → IsWellShapedCode allow code → limits.allowed ≡ allow → HaveRows allow code → (f : FunCode) (words : List Word) (w : World) (o : Option FunCode) → o ≡ Some f
+start_ends : (allow : AllowList) (code prelude : List FunCode) (limits : Limits) → IsWellShapedCode allow code → limits.ground.allowed ≡ allow → HaveRows allow code → (f : FunCode) (words : List Word) (w : World) (o : Option FunCode) → o ≡ Some f
     → FitsNext allow code limits (start_at o words w) → EndsWithin allow code prelude limits (most_steps code limits w.ticks) (start_at o words w)
 start_ends allow code prelude limits well under rows f words w None is fits = cc
 start_ends allow code prelude limits well under rows f words w (Some g) is fits = ends_within allow code prelude limits well under rows (started g words w) fits
 
-pub run_ends : (allow : AllowList) (code prelude : List FunCode) (limits : Limits) → IsWellShapedCode allow code → limits.allowed ≡ allow → HaveRows allow code → (f : FunCode) (words : List Word) (w : World) → slice_get code 0 ≡ Some f → kinds_of words ≡ f.params
+pub run_ends : (allow : AllowList) (code prelude : List FunCode) (limits : Limits) → IsWellShapedCode allow code → limits.ground.allowed ≡ allow → HaveRows allow code → (f : FunCode) (words : List Word) (w : World) → slice_get code 0 ≡ Some f → kinds_of words ≡ f.params
     → ReachesAllowed allow w → EndsWithin allow code prelude limits (most_steps code limits w.ticks) (start (codes_of code prelude) words w)
 run_ends allow code prelude limits well under rows f words w is params reached =
     start_ends allow code prelude limits well under rows f words w (slice_get code 0) is (starts_fit allow code prelude limits f words w well is params reached)

@@ -68,7 +68,7 @@ use Rattle.verifier_soundness.proofs.Calling.{call_moves, return_moves}
 use Rattle.verifier_soundness.proofs.Calls.{invoked_moves, made_moves, read_moves}
 use Rattle.verifier_soundness.proofs.Plains.{puts, next_with, copies, pops, dups, dups_two, dups_under_one, dups_under_two, loads_local, stores_local, calculated, boxes, jumps, branches_at_zero, branches_at_others, branches_at_null, loops}
 
-module _ (allow : AllowList) (code prelude : List FunCode) (limits : Limits) (well : IsWellShapedCode allow code) (function : FunCode) (f : Frame) (below : List Frame) (w : World) (here : Here allow code limits function f below w) (under : limits.allowed ≡ allow) where
+module _ (allow : AllowList) (code prelude : List FunCode) (limits : Limits) (well : IsWellShapedCode allow code) (function : FunCode) (f : Frame) (below : List Frame) (w : World) (here : Here allow code limits function f below w) (under : limits.ground.allowed ≡ allow) where
   abbrev Moved : Next → Type 0
   Moved next = Moves allow code limits (left_at code limits f below w) next
 
@@ -321,7 +321,7 @@ module _ (allow : AllowList) (code prelude : List FunCode) (limits : Limits) (we
   act_moves (i.NewRef interface of) row s = absurd (false≢true row)
 
 -- A configuration that fits takes a step to one that fits, of which less is left, or ends.
-pub step_moves : (allow : AllowList) (code prelude : List FunCode) (limits : Limits) → IsWellShapedCode allow code → limits.allowed ≡ allow → HaveRows allow code → (c : Config) → FitsConfig allow code limits c
+pub step_moves : (allow : AllowList) (code prelude : List FunCode) (limits : Limits) → IsWellShapedCode allow code → limits.ground.allowed ≡ allow → HaveRows allow code → (c : Config) → FitsConfig allow code limits c
     → Moves allow code limits (left_of code limits c) (step (codes_of code prelude) limits c)
 step_moves allow code prelude limits well under rows c fits =
     let here : Here allow code limits fits.function c.top c.below c.world = record { fits = fits.top; due = fits.due; text = fits.text; belows = fits.below; within = fits.within; reached = fits.reached } in

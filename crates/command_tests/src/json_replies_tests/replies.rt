@@ -1,7 +1,7 @@
 //! What ends of runs over documents are told as.
 use json_replies::search_reply_line;
 use object_heap::{End, Heap, Which};
-use object_values::{Elements, Guard, Object, Value};
+use object_values::{Elements, Guard, Object, Seed, Value};
 use pl_types::classes::ARRAY_LIST;
 use pl_units::UText;
 use search_ctx::SearchKind;
@@ -9,7 +9,7 @@ use std::alloc::{AllocError, Global};
 
 /// A heap with an exception that has a message, and a list that holds itself.
 fn heap(alloc: Global) -> Result<Heap, AllocError> {
-    let mut heap = Heap::new(alloc, 0);
+    let mut heap = Heap::new(alloc, 0, Seed::of(b"test"));
     let message = UText::from_utf8(alloc, "m")?;
     heap.place(Object::Exc {
         class: pl_types::classes::EXCEPTION,

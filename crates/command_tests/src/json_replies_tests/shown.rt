@@ -4,7 +4,7 @@ ghost use Rattle.std.specs.Prelude.{◌≡◌, ◌∷◌, [], IfOk};
 use allowlist::Catalogue;
 use json_replies::{ShownKeys, shown_reply_line};
 use object_heap::{End, Heap, Outcome, Which};
-use object_values::{Elements, Value};
+use object_values::{Elements, Seed, Value};
 use search_ctx::SearchKind;
 use std::alloc::{AllocError, Global};
 
@@ -20,7 +20,7 @@ fn line_of(alloc: Global, keys: ShownKeys, end: End) -> Result<(String, bool), A
     let allow = Catalogue::full(alloc)?;
     let outcome = Outcome {
         end,
-        heap: Heap::new(alloc, 0),
+        heap: Heap::new(alloc, 0, Seed::of(b"test")),
         ticks: 2,
         steps: 5,
         reached: members(alloc)?,

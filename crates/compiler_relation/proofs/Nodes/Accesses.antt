@@ -36,7 +36,7 @@ module _ (funs : Programs) (codes : Codes) (limits : Limits) (m : Meaning) (c : 
       → Sim codes limits c h g (land_value funs codes limits c Boxed (suc q) st) Any (on_found_paid codes limits x number arguments (frame codes limits c q l st' s) c.below st) (paid funs limits m x number arguments s e)
   found_paid number arguments q i' s e l st st' a f (Passes limit w) = record { by = ended codes limits _ }
   found_paid number arguments q i' s e l st st' a f (Counts w) =
-      found_runs q i' (record { world = w; turns = s.turns }) e l st st' a f (does limits.host number arguments w.store)
+      found_runs q i' (record { world = w; turns = s.turns }) e l st st' a f (does limits.ground.host number arguments w.store)
 
   access_runs : (q : ℕ) (i' : Instruction) (s : State) (e : Env) (l st st' : List Word) → At c.body h q i' → Fits c.body g e l → (x : Access)
       → Sim codes limits c h g (land_value funs codes limits c Boxed (suc q) st) Any (on_access codes limits x (frame codes limits c q l st' s) c.below s.world st) (accessed funs limits m x (place codes limits c) s e)
@@ -54,7 +54,7 @@ module _ (funs : Programs) (codes : Codes) (limits : Limits) (m : Meaning) (c : 
       → Sim codes limits c h g (λ dropped s l. at codes limits c (suc q) l st s) Any (on_put_paid codes limits x number arguments (frame codes limits c q l st' s) c.below st) (paid funs limits m x number arguments s e)
   put_paid number arguments q i' s e l st st' a f (Passes limit w) = record { by = ended codes limits _ }
   put_paid number arguments q i' s e l st st' a f (Counts w) =
-      put_runs q i' (record { world = w; turns = s.turns }) e l st st' a f (does limits.host number arguments w.store)
+      put_runs q i' (record { world = w; turns = s.turns }) e l st st' a f (does limits.ground.host number arguments w.store)
 
   write_access : (q : ℕ) (i' : Instruction) (s : State) (e : Env) (l st st' : List Word) → At c.body h q i' → Fits c.body g e l → (x : Access)
       → Sim codes limits c h g (λ dropped s l. at codes limits c (suc q) l st s) Any (on_write codes limits x (frame codes limits c q l st' s) c.below s.world st) (accessed funs limits m x (place codes limits c) s e)

@@ -21,14 +21,14 @@ use Rattle.typed_tree.specs.declared.operation.Operator.{Operator}
 use Rattle.typed_tree.specs.declared.operation.Operator.TheVariants as operator
 use Rattle.typed_tree.specs.declared.operation.Operation.{Operation}
 use Rattle.typed_tree.specs.declared.operation.Operation.TheVariants as operation
-use Rattle.run_state.specs.World.{Limits}
+use Rattle.run_state.specs.World.{Limits, enter}
 use Rattle.source_meaning.specs.Tree.{Expr, Apply, Guarded, Exprs, None', One, Programs, functions_in, type_of}
 use Rattle.source_meaning.specs.Operating.{operates, operates_to, of_one_value}
 use Rattle.source_meaning.specs.Meaning.{State, Env, Out, Done, Meaning, bind, unless_null, operated, applied, expr_of}
 use Rattle.code_meaning.specs.declared.word.Word.{Word}
 use Rattle.code_meaning.specs.declared.word.Word.TheVariants.{R}
 use Rattle.code_meaning.specs.Words.{unboxed}
-use Rattle.code_meaning.specs.Machine.{Codes, Handlers, Next, on_one, if_null, pushed}
+use Rattle.code_meaning.specs.Machine.{Codes, Handlers, Next, depth_of, on_one, if_null, pushed}
 use Rattle.compiler_relation.specs.Representation.{Representation, Unboxed, Boxed, Absent, representation_of, low}
 use Rattle.compiler_relation.specs.Parts.{operator_code, typed_code, operator_takes, operator_gives, operation_code, without_null}
 use Rattle.compiler_relation.specs.Stands.{Scope, AllAt, end_all, end_expr, end_exprs, representations, AllRepresented, HasCode, Asks, OperatorFits, Fitting, MemberFits, AreCompiled, ExprAt, ExprsAt, At}
@@ -150,7 +150,8 @@ module _ (funs : Programs) (codes : Codes) (limits : Limits) (m : Meaning) (ih :
   applied_runs made (operation.Cast x) of c h g ks (value ∷ other ∷ values) q s e l st a fitting count f = record { by = tt }
   applied_runs made (operation.Function number) of c h g ks values q s e l st a fitting count f =
       step_to codes limits l (push ks values st) s a.0
-      (called_runs funs codes limits m ih made c h g q number (representation_of of) ks s e l st values a.0 f count (slice_get (functions_in funs c.text) number) refl fitting)
+      (called_runs funs codes limits m ih made c h g q c.text number _ [] (representation_of of) ks s e l st values a.0 f count (enter limits (depth_of c.below) s.world) (slice_get (functions_in funs c.text) number) refl
+      (λ fun is. let x = fitting fun is in (x.0, x.1, tt)))
   applied_runs made (operation.InstanceOf is) of c h g ks values q s e l st a fitting count f =
       instance_runs is of c h g ks values q s e l st a fitting count f
   applied_runs made (operation.Instance member) of c h g ks values q s e l st a fitting count f =

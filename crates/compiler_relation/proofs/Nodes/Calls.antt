@@ -1,4 +1,4 @@
--- Calls of functions of the script.
+-- Calls of functions.
 use Rattle.std.proofs.Common.{◌≡◌, ◌≢◌, ℕ, suc, ◌+◌, ◌≤◌, Bool, true, false, List, [], ◌∷◌, ◌++◌, map, length, Option, Some, None, refl, sym, ap, ◌∙◌, subst, arith, append_assoc, append-nil, length-append}
 use Rattle.std.proofs.lemmas.List.{length-map}
 use Rattle.std.specs.Prelude.{slice_get}
@@ -10,25 +10,26 @@ use Rattle.object_values.specs.declared.object.Owner.{Owner}
 use Rattle.object_values.specs.declared.object.Owner.TheVariants.{Script, Prelude}
 use Rattle.object_values.specs.declared.value.Value.{Value}
 use Rattle.pl_code.specs.declared.kinds.Plain.TheVariants as plain
-use Rattle.pl_code.specs.declared.kinds.Numbered.TheVariants as numbered
 use Rattle.pl_code.specs.declared.kinds.Slot.{Slot}
 use Rattle.pl_code.specs.declared.code.FunCode.{FunCode}
 use Rattle.pl_code.specs.declared.code.Instruction.{Instruction}
 use Rattle.pl_code.specs.declared.code.Instruction.TheVariants as i
-use Rattle.run_state.specs.World.{Limits, End, Counted, Counts, Passes, enter}
+use Rattle.run_state.specs.World.{Limits, End, Counted, Counts, Passes}
 use Rattle.source_meaning.specs.Tree.{Variable, Fun, Program, Programs, functions_in}
 use Rattle.source_meaning.specs.Meaning.{State, Env, Out, Done, Thrown, Over, More, Flow, Normal, Broke, Continued, Returned, Meaning, entry, default_of, back, entered, called}
 use Rattle.source_meaning.specs.Types.{default_of_layer}
+use Rattle.source_meaning.proofs.Due.{DueOf}
 use Rattle.code_meaning.specs.declared.word.Word.{Word}
 use Rattle.code_meaning.specs.declared.word.Word.TheVariants.{R}
 use Rattle.code_meaning.specs.Words.{unboxed, start_of}
-use Rattle.code_meaning.specs.Machine.{Codes, code_in, Handlers, Next, on_words, on_call, on_enter, returns, returns_of, gives_back, take_words, depth_of, pushed}
+use Rattle.code_meaning.specs.Machine.{Codes, code_in, Handlers, Next, on_words, on_function, on_enter, cast_due, returns, returns_of, gives_back, take_words, pushed}
 use Rattle.compiler_relation.specs.Representation.{Representation, Unboxed, Boxed, Absent, representation_of, representation_of_layer, low, kind_of, result_of_layer}
 use Rattle.compiler_relation.specs.Parts.{default_code, default_code_layer}
 use Rattle.compiler_relation.specs.Stands.{Scope, At, AllAt, end_all, falls, all_fall, any_continues, end_stmts, scope_of, no_jumps, ArePresent, representations_of, EndAt, FunAt, Compiled, AreCompiled}
 use Rattle.compiler_relation.proofs.Locals.{Agrees, Under, Falling, Fits, under_more}
-use Rattle.compiler_relation.proofs.Follows.{Ctx, Leads, ended, frame, at, place, does_next, throws, Follows, Sim}
+use Rattle.compiler_relation.proofs.Follows.{Ctx, Leads, ended, frame, at, place, and_then, does_next, throws, Follows, Sim}
 use Rattle.compiler_relation.proofs.Refines.{push, Any, Good, land_value, land_flow, Refines}
+use Rattle.compiler_relation.proofs.Nodes.Due.{due_representation, due_runs}
 
 -- ---- words of arguments
 
@@ -146,10 +147,10 @@ module _ (codes : Codes) (limits : Limits) where
 
   -- a function returns what is represented on its stack as its result is
   pub returns_value : (c : Ctx codes) (h : Handlers) (q : ℕ) (value : Value) (l : List Word) (s : State) (r : End (Option Word)) → At c.body h q (i.Plain plain.Ret)
-      → Leads codes limits (gives_back codes limits c.below [] (low (representation_of c.result) value) s.world) r
+      → Leads codes limits (gives_back codes limits c.below c.due (low (representation_of c.result) value) s.world) r
       → Leads codes limits (at codes limits c q l (pushed (low (representation_of c.result) value) []) s) r
   returns_value c h q value l s r a d =
-      let next = λ (result : Option Word). gives_back codes limits c.below [] result s.world in
+      let next = λ (result : Option Word). gives_back codes limits c.below c.due result s.world in
       let st = pushed (low (representation_of c.result) value) [] in
       let same : returns codes limits (slice_get (code_in codes c.text) c.fun) st next ≡ next (low (representation_of c.result) value) =
       ap (λ o. returns codes limits o st next) c.is ∙ ret_layer (out-Ty c.result) value c.body.result next c.gives in
@@ -180,7 +181,7 @@ module _ (codes : Codes) (limits : Limits) where
 
   -- the end of a function
   pub function_ends : (c : Ctx codes) (falling : Bool) (q : ℕ) (l : List Word) (s : State) (r : End (Option Word)) → EndAt c.body falling q c.result → falling ≡ true
-      → Leads codes limits (gives_back codes limits c.below [] (low (representation_of c.result) (default_of c.result)) s.world) r → Leads codes limits (at codes limits c q l [] s) r
+      → Leads codes limits (gives_back codes limits c.below c.due (low (representation_of c.result) (default_of c.result)) s.world) r → Leads codes limits (at codes limits c q l [] s) r
   function_ends c true q l s r a falls d = default_runs c.result c [] q l [] s r a.0 (returns_value c [] (end_all q (default_code c.result)) (default_of c.result) l s r a.1 d)
   function_ends c false q l s r a falls d = cc
 
@@ -190,13 +191,17 @@ in_text funs codes made Script = made.script
 in_text funs codes made Prelude = made.prelude
 
 -- what the callee gives, seen from the caller
-module _ (funs : Programs) (codes : Codes) (limits : Limits) (c : Ctx codes) (h : Handlers) (g g' : Scope) (q number : ℕ) (fun : Fun) (fa : FunAt c.text (functions_in funs c.text) (code_in codes c.text) number fun) (s : State) (e : Env) (l st : List Word) (call : Instruction) where
+module _ (funs : Programs) (codes : Codes) (limits : Limits) (c : Ctx codes) (h : Handlers) (g g' : Scope) (q : ℕ) (text : Owner) (number : ℕ) (fun : Fun) (fa : FunAt text (functions_in funs text) (code_in codes text) number fun) (due : List Ty) (s : State) (e : Env) (l st : List Word) (call : Instruction) where
   abbrev callee : Ctx codes
-  callee = record { text = c.text; fun = number; body = fa.body; result = fun.result; below = frame codes limits c q l st s ∷ c.below; is = fa.is; loops = fa.loops; gives = fa.result }
+  callee = record { text = text; fun = number; body = fa.body; result = fun.result; below = frame codes limits c q l st s ∷ c.below; due = due; is = fa.is; loops = fa.loops; gives = fa.result }
+
+  -- a value in the frame that waits at the call, before the casts that are due
+  abbrev returning : Value → State → List Word → Next
+  returning value s' l' = cast_due codes limits due (low (representation_of fun.result) value) (frame codes limits c q l' st s') c.below s'.world
 
   comes_back : At c.body h q call → Fits c.body g e l → (n : Next) (o : Out Flow)
       → Follows codes limits callee [] g' (land_flow funs codes limits callee no_jumps (end_stmts 0 fun.body)) (Good (all_fall fun.body) (any_continues fun.body)) n o
-      → Follows codes limits c h g (land_value funs codes limits c (representation_of fun.result) (suc q) st) Any n (back fun.result o s.turns e)
+      → Follows codes limits c h g returning Any n (back fun.result o s.turns e)
   comes_back a f n (Done Normal s' e') d = λ r j. d r (λ l' f' falls. function_ends codes limits callee (all_fall fun.body) (end_stmts 0 fun.body) l' s' r fa.ends falls (j l f tt))
   comes_back a f n (Done Broke s' e') d = tt
   comes_back a f n (Done Continued s' e') d = tt
@@ -206,44 +211,51 @@ module _ (funs : Programs) (codes : Codes) (limits : Limits) (c : Ctx codes) (h 
   comes_back a f n More d = tt
 
 module _ (funs : Programs) (codes : Codes) (limits : Limits) (m : Meaning) (ih : Refines funs codes limits m) where
-  -- the tick, the depth and the body
-  entered_runs : (c : Ctx codes) (h : Handlers) (g : Scope) (q number : ℕ) (call : Instruction) (s : State) (e : Env) (l st st' : List Word) (values : List Value) → At c.body h q call → Fits c.body g e l
-      → (f : Fun) (fa : FunAt c.text (functions_in funs c.text) (code_in codes c.text) number f) (args : Env) → entry f.params values [] ≡ Some args → (t : Counted)
-      → Sim codes limits c h g (land_value funs codes limits c (representation_of f.result) (suc q) st) Any (on_enter codes limits t number fa.body [] (frame codes limits c q l st' s) c.below s.world (words_at (representations_of f.params) values) st)
-      (entered funs limits m t (place codes limits c) s e f.result f.body (Some args))
-  entered_runs c h g q number call s e l st st' values a x f fa args qe (Passes limit w') = record { by = ended codes limits _ }
-  entered_runs c h g q number call s e l st st' values a x f fa args qe (Counts w) =
+  -- the tick, the depth, the body, and the casts that are due
+  entered_runs : (c : Ctx codes) (h : Handlers) (g : Scope) (q : ℕ) (text : Owner) (number : ℕ) (call : Instruction) (due : List Ty) (s : State) (e : Env) (l st st' : List Word) (values : List Value)
+      → At c.body h q call → Fits c.body g e l
+      → (f : Fun) (fa : FunAt text (functions_in funs text) (code_in codes text) number f) → DueOf f.result due → (args : Env) → entry f.params values [] ≡ Some args → (t : Counted)
+      → Sim codes limits c h g (land_value funs codes limits c (due_representation f.result due) (suc q) st) Any
+      (on_enter codes limits t text number fa.body due (frame codes limits c q l st' s) c.below s.world (words_at (representations_of f.params) values) st)
+      (entered funs limits m t text due (place codes limits c) s e f.result f.body (Some args))
+  entered_runs c h g q text number call due s e l st st' values a x f fa dues args qe (Passes limit w') = record { by = ended codes limits _ }
+  entered_runs c h g q text number call due s e l st st' values a x f fa dues args qe (Counts w) =
       let locals = words_at (representations_of f.params) values ++ map start_of fa.body.locals in
       let scope = scope_of f.params 0 [] in
-      let inner = callee funs codes limits c h g scope q number f fa s e l st call in
-      let fits = starts_fitting fa.body f values args qe fa.present (as_many c.text (functions_in funs c.text) (code_in codes c.text) number f fa) in
+      let inner = callee funs codes limits c h g scope q text number f fa due s e l st call in
+      let fits = starts_fitting fa.body f values args qe fa.present (as_many text (functions_in funs text) (code_in codes text) number f fa) in
       let under : Under (length f.params) scope = under_more (0 + length f.params) (length f.params) scope (omega arith) (scope_order f.params 0 [] tt tt).1 in
       let body = ih.stmts f.body inner [] scope (length f.params) no_jumps 0 (record { world = w; turns = 0 }) args locals fa.stands under fits in
-      record { by = comes_back funs codes limits c h g scope q number f fa s e l st call a x _ _ body.by }
+      let gives : Sim codes limits c h g (returning funs codes limits c h g scope q text number f fa due s e l st call) Any (at codes limits inner 0 locals [] (record { world = w; turns = 0 }))
+      (back f.result (m.stmts (place codes limits inner) (record { world = w; turns = 0 }) args f.body) s.turns e) =
+      record { by = comes_back funs codes limits c h g scope q text number f fa due s e l st call a x _ _ body.by } in
+      and_then codes limits gives (λ value s e l f' _. due_runs funs codes limits c h g q call e l st a f' f.result due dues value s)
 
-  pub called_runs : AreCompiled funs codes → (c : Ctx codes) (h : Handlers) (g : Scope) (q number : ℕ) (k : Representation) (ks : List Representation) (s : State) (e : Env) (l st : List Word) (values : List Value)
-      → At c.body h q (i.Numbered numbered.Call number) → Fits c.body g e l → length ks ≡ length values → (o : Option Fun) → slice_get (functions_in funs c.text) number ≡ o
-      → ((f : Fun) → o ≡ Some f → (ks ≡ representations_of f.params) × (k ≡ representation_of f.result))
-      → Sim codes limits c h g (land_value funs codes limits c k (suc q) st) Any (on_call codes limits (slice_get (code_in codes c.text) number) number (frame codes limits c q l (push ks values st) s) c.below s.world) (called funs limits m o (place codes limits c) s e values)
-  called_runs made c h g q number k ks s e l st values a x count None qf fitting = record { by = tt }
-  called_runs made c h g q number k ks s e l st values a x count (Some f) qf fitting = tried (entry f.params values []) refl
+  -- a call of a function of a text, whose values lie on the stack
+  pub called_runs : AreCompiled funs codes → (c : Ctx codes) (h : Handlers) (g : Scope) (q : ℕ) (text : Owner) (number : ℕ) (call : Instruction) (due : List Ty) (k : Representation) (ks : List Representation) (s : State) (e : Env)
+      (l st : List Word) (values : List Value) → At c.body h q call → Fits c.body g e l → length ks ≡ length values → (t : Counted) (o : Option Fun) → slice_get (functions_in funs text) number ≡ o
+      → ((f : Fun) → o ≡ Some f → (ks ≡ representations_of f.params) × (k ≡ due_representation f.result due) × DueOf f.result due)
+      → Sim codes limits c h g (land_value funs codes limits c k (suc q) st) Any
+      (on_function codes limits (slice_get (code_in codes text) number) t text number due (frame codes limits c q l (push ks values st) s) c.below s.world) (called funs limits m o t text due (place codes limits c) s e values)
+  called_runs made c h g q text number call due k ks s e l st values a x count t None qf fitting = record { by = tt }
+  called_runs made c h g q text number call due k ks s e l st values a x count t (Some f) qf fitting = tried (entry f.params values []) refl
     where
-      fa : FunAt c.text (functions_in funs c.text) (code_in codes c.text) number f
-      fa = (in_text funs codes made c.text).each number f qf
+      fa : FunAt text (functions_in funs text) (code_in codes text) number f
+      fa = (in_text funs codes made text).each number f qf
 
       tried : (o : Option Env) → entry f.params values [] ≡ o
-          → Sim codes limits c h g (land_value funs codes limits c k (suc q) st) Any (on_call codes limits (slice_get (code_in codes c.text) number) number (frame codes limits c q l (push ks values st) s) c.below s.world) (entered funs limits m (enter limits (depth_of c.below) s.world) (place codes limits c) s e f.result f.body o)
+          → Sim codes limits c h g (land_value funs codes limits c k (suc q) st) Any
+          (on_function codes limits (slice_get (code_in codes text) number) t text number due (frame codes limits c q l (push ks values st) s) c.below s.world) (entered funs limits m t text due (place codes limits c) s e f.result f.body o)
       tried None qe = record { by = tt }
       tried (Some args) qe =
           let same = fitting f refl in
           let caller = frame codes limits c q l (push ks values st) s in
-          let t = enter limits (depth_of c.below) s.world in
           let present : ArePresent ks = subst ArePresent (sym same.0) fa.present in
-          let n : length fa.body.params ≡ length ks = as_many c.text (functions_in funs c.text) (code_in codes c.text) number f fa ∙ sym (length-map f.params (λ (x : Variable). representation_of x.of)) ∙ ap length (sym same.0) in
-          let fetched : on_call codes limits (slice_get (code_in codes c.text) number) number caller c.below s.world ≡ on_enter codes limits t number fa.body [] caller c.below s.world (words_at (representations_of f.params) values) st =
-          ap (λ o. on_call codes limits o number caller c.below s.world) fa.is
-          ∙ ap (λ o. on_words o (λ args stack. on_enter codes limits t number fa.body [] caller c.below s.world args stack)) (off (length fa.body.params) ks values st n present count)
-          ∙ ap (λ ks. on_enter codes limits t number fa.body [] caller c.below s.world (words_at ks values) st) same.0 in
-          subst (λ n. Sim codes limits c h g (land_value funs codes limits c k (suc q) st) Any n (entered funs limits m t (place codes limits c) s e f.result f.body (Some args))) (sym fetched)
-          (subst (λ k. Sim codes limits c h g (land_value funs codes limits c k (suc q) st) Any (on_enter codes limits t number fa.body [] caller c.below s.world (words_at (representations_of f.params) values) st) (entered funs limits m t (place codes limits c) s e f.result f.body (Some args)))
-          (sym same.1) (entered_runs c h g q number _ s e l st (push ks values st) values a x f fa args qe t))
+          let n : length fa.body.params ≡ length ks = as_many text (functions_in funs text) (code_in codes text) number f fa ∙ sym (length-map f.params (λ (x : Variable). representation_of x.of)) ∙ ap length (sym same.0) in
+          let fetched : on_function codes limits (slice_get (code_in codes text) number) t text number due caller c.below s.world ≡ on_enter codes limits t text number fa.body due caller c.below s.world (words_at (representations_of f.params) values) st =
+          ap (λ o. on_function codes limits o t text number due caller c.below s.world) fa.is
+          ∙ ap (λ o. on_words o (λ args stack. on_enter codes limits t text number fa.body due caller c.below s.world args stack)) (off (length fa.body.params) ks values st n present count)
+          ∙ ap (λ ks. on_enter codes limits t text number fa.body due caller c.below s.world (words_at ks values) st) same.0 in
+          subst (λ n. Sim codes limits c h g (land_value funs codes limits c k (suc q) st) Any n (entered funs limits m t text due (place codes limits c) s e f.result f.body (Some args))) (sym fetched)
+          (subst (λ k. Sim codes limits c h g (land_value funs codes limits c k (suc q) st) Any (on_enter codes limits t text number fa.body due caller c.below s.world (words_at (representations_of f.params) values) st) (entered funs limits m t text due (place codes limits c) s e f.result f.body (Some args)))
+          (sym same.1) (entered_runs c h g q text number call due s e l st (push ks values st) values a x f fa same.2 args qe t))

@@ -4,8 +4,6 @@ use Rattle.std.specs.Prelude.{slice_get}
 use Rattle.std.specs.List.{list_all}
 use Rattle.std.proofs.lemmas.List.{length-map}
 use Rattle.std.proofs.lemmas.Option.{get_or_from_slice_get}
-use Rattle.pl_types.specs.declared.primitive.Primitive.{Primitive}
-use Rattle.pl_types.specs.declared.primitive.Primitive.TheVariants as prim
 use Rattle.pl_types.specs.declared.ty.Ty as ty
 use Rattle.pl_types.specs.declared.ty.Ty.{Ty, out-Ty}
 use Rattle.pl_types.specs.declared.ty.Ty.TheOpen.{Ty-F}
@@ -26,14 +24,12 @@ use Rattle.typed_tree.specs.declared.operation.Member.{Member}
 use Rattle.run_state.specs.Calls.{suits_member, wrong_class}
 use Rattle.run_state.specs.World.{Limits, Outcome, Given, Raised, Full, acts_in, Counted, Counts, Passes, allowed_in, pay_member}
 use Rattle.source_meaning.specs.Tree.{Programs}
-use Rattle.source_meaning.specs.Operating.{in_box}
 use Rattle.source_meaning.specs.Members as source
 use Rattle.source_meaning.specs.Members.{Sending, passed_layer, passed, passed_all, sends, sends_to, sent_by, sent}
 use Rattle.source_meaning.specs.Meaning.{State, Env, Out, Meaning, acted, paid, tested, member_called, member_applied, of_member}
 use Rattle.source_meaning.specs.Meaning as meaning
 use Rattle.code_meaning.specs.declared.word.Word.{Word}
 use Rattle.code_meaning.specs.declared.word.Word.TheVariants.{R}
-use Rattle.code_meaning.specs.Words.{unboxed, boxed}
 use Rattle.code_meaning.specs.Members as target
 use Rattle.code_meaning.specs.Members.{Receiving, taken_layer, taken, taken_all, receives, receives_on, received_by, received, count_by, count_of, given_layer}
 use Rattle.code_meaning.specs.Machine.{Codes, Handlers, Next, take_words, on_words, on_outcome, on_act, on_paid, on_tested, on_received, member_act}
@@ -44,6 +40,7 @@ use Rattle.compiler_relation.proofs.Locals.{Fits}
 use Rattle.compiler_relation.proofs.Follows.{Ctx, place, Sim, frame, ended, done, step_to, throws}
 use Rattle.compiler_relation.proofs.Refines.{push, Any, land_value}
 use Rattle.compiler_relation.proofs.Nodes.Operands.{outcome_runs}
+use Rattle.compiler_relation.proofs.Nodes.Due.{in_boxed}
 use Rattle.compiler_relation.proofs.Nodes.Calls.{word_at, words_at, off}
 
 -- ---- the catalogue
@@ -94,21 +91,6 @@ stands_at : (number : ℕ) (t : MemberType) → slice_get catalogue number ≡ S
 stands_at number t is = get_or_from_slice_get catalogue number t (constructor 0 []) is
 
 -- ---- arguments
-
-in_boxed : (p : Primitive) (value given : Value) → in_box p value ≡ Some given → boxed p (unboxed value) ≡ Some given
-in_boxed prim.Boolean (v.Bool true) given e = e
-in_boxed prim.Boolean (v.Bool false) given e = e
-in_boxed prim.Boolean value given e = cc
-in_boxed prim.Byte (v.Byte a) given e = e
-in_boxed prim.Byte value given e = cc
-in_boxed prim.Short (v.Short a) given e = e
-in_boxed prim.Short value given e = cc
-in_boxed prim.Char (v.Char a) given e = e
-in_boxed prim.Char value given e = cc
-in_boxed prim.Int (v.Int a) given e = e
-in_boxed prim.Int value given e = cc
-in_boxed prim.Long (v.Long a) given e = e
-in_boxed prim.Long value given e = cc
 
 pub layer_taken : (y : Ty-F Ty) (value given : Value) → passed_layer y value ≡ Some given → taken_layer y (word_at (representation_of_layer y) value) ≡ Some given
 layer_taken Ty-F.Void value given e = e
@@ -227,7 +209,7 @@ module _ (texts : TextsName) (funs : Programs) (codes : Codes) (limits : Limits)
       (paid funs limits m x number arguments s e)
   paid_runs t number arguments q i' s e l st st' a drops f (Passes limit w) = record { by = ended codes limits _ }
   paid_runs t number arguments q i' s e l st st' a drops f (Counts w) =
-      act_runs t q i' (record { world = w; turns = s.turns }) e l st st' a drops f (does limits.host number arguments w.store)
+      act_runs t q i' (record { world = w; turns = s.turns }) e l st st' a drops f (does limits.ground.host number arguments w.store)
 
   -- what is tested of the one is tested of the other
   tested_runs : (t : MemberType) (suits : Bool) (number : ℕ) (arguments : List Value) (q : ℕ) (i' : Instruction) (s : State) (e : Env) (l st st' : List Word)
@@ -262,7 +244,7 @@ module _ (texts : TextsName) (funs : Programs) (codes : Codes) (limits : Limits)
       subst (λ x. Gives funs codes limits c h g (representation_of t.result) q st
       (on_received codes limits x number t (frame codes limits c q l st' s) c.below s.world st) (member_called funs limits m source.Reads number t (place codes limits c) s e))
       (sym is)
-      (act_runs t q i' s e l st st' a drops f (does limits.host number [] s.world.store))
+      (act_runs t q i' s e l st st' a drops f (does limits.ground.host number [] s.world.store))
 
   -- the words come off the stack
   abbrev Taken : MemberType → MemberKind → List Ty → ℕ → List Representation → List Value → ℕ → State → Env → List Word → List Word → Type 0

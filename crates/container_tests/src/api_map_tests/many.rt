@@ -1,7 +1,7 @@
 //! Maps and sets of many keys, by their members.
 use api_map::call;
 use object_heap::{Answer, Heap};
-use object_values::Value;
+use object_values::{Seed, Value};
 use std::test::Fail;
 
 const COUNT: u32 = 400_000;
@@ -83,7 +83,7 @@ fn cut_all(heap: &mut Heap, count: u32) -> u32 {
 
 #[test]
 fn many_keys(rt: HostRuntime) -> Result<(), Fail> {
-    let mut heap = Heap::new(rt.alloc(), u64::MAX);
+    let mut heap = Heap::new(rt.alloc(), u64::MAX, Seed::of(b"test"));
     let made = gives(&mut heap, NEW_MAP, &[], &Value::Ref(0));
     assert!(rt; made);
     let put = put_all(&mut heap, COUNT);
@@ -99,7 +99,7 @@ fn many_keys(rt: HostRuntime) -> Result<(), Fail> {
 // The set 2 of the keys of the map 0, of which the view 1 shows them.
 #[test]
 fn many_kept(rt: HostRuntime) -> Result<(), Fail> {
-    let mut heap = Heap::new(rt.alloc(), u64::MAX);
+    let mut heap = Heap::new(rt.alloc(), u64::MAX, Seed::of(b"test"));
     let made = gives(&mut heap, NEW_MAP, &[], &Value::Ref(0));
     let put = put_all(&mut heap, COUNT);
     let shown = gives(&mut heap, KEY_SET, &[Value::Ref(0)], &Value::Ref(1));

@@ -1,6 +1,6 @@
 //! The heap of the rows.
 use object_heap::Heap;
-use object_values::{Elements, Guard, Object, Pairs, Part, Value};
+use object_values::{Elements, Guard, Object, Pairs, Part, Seed, Value};
 use pl_types::classes::{ARRAY_LIST, HASH_MAP, HASH_SET};
 use pl_types::{Primitive, Ty};
 use std::alloc::{AllocError, Global};
@@ -14,7 +14,7 @@ fn ints(alloc: Global, numbers: &[i32]) -> Result<Elements<Value>, AllocError> {
 }
 
 fn keys(alloc: Global, numbers: &[i32]) -> Result<Pairs, AllocError> {
-    let mut pairs = Pairs::new(alloc);
+    let mut pairs = Pairs::new(alloc, Seed::of(b"test"));
     for number in numbers {
         pairs.put(Value::Int(*number), Value::Null)?;
     }
@@ -22,7 +22,7 @@ fn keys(alloc: Global, numbers: &[i32]) -> Result<Pairs, AllocError> {
 }
 
 fn pairs(alloc: Global) -> Result<Pairs, AllocError> {
-    let mut pairs = Pairs::new(alloc);
+    let mut pairs = Pairs::new(alloc, Seed::of(b"test"));
     pairs.put(Value::Int(1), Value::Int(7))?;
     pairs.put(Value::Int(2), Value::Int(8))?;
     Ok(pairs)
@@ -79,7 +79,7 @@ fn place_map(heap: &mut Heap) -> Result<(), AllocError> {
 /// 0 is a list of 10, 20 and 30, 1 a frozen list of 10, 2 an array of 5, 3 a set of 1 and 2, 4 a map that has 7 under 1 and 8 under
 /// 2, and 5 to 7 its views.
 pub fn sample(alloc: Global, room: u64) -> Result<Heap, AllocError> {
-    let mut heap = Heap::new(alloc, room);
+    let mut heap = Heap::new(alloc, room, Seed::of(b"test"));
     place_list(&mut heap, &[10, 20, 30], Guard::Open)?;
     place_list(&mut heap, &[10], Guard::Frozen)?;
     place_array(&mut heap)?;

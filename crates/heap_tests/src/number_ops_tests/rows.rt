@@ -1,6 +1,6 @@
 //! Values as rows write them.
 use object_heap::{Answer, Heap};
-use object_values::{Elements, Guard, Object, Value};
+use object_values::{Elements, Guard, Object, Seed, Value};
 use pl_types::classes::{
     ARITHMETIC_EXCEPTION, ARRAY_LIST, CLASS_CAST_EXCEPTION, ILLEGAL_STATE_EXCEPTION,
     NULL_POINTER_EXCEPTION, NUMBER_FORMAT_EXCEPTION,
@@ -55,7 +55,7 @@ fn list(alloc: Global, items: Elements<Value>) -> Object {
 
 /// A heap with the objects that rows name.
 pub fn sample(alloc: Global) -> Result<Heap, AllocError> {
-    let mut heap = Heap::new(alloc, 1_000);
+    let mut heap = Heap::new(alloc, 1_000, Seed::of(b"test"));
     heap.place(list(alloc, Elements::new(alloc)))?;
     heap.place(Object::Array {
         elem: Ty::Prim(Primitive::Int),

@@ -121,3 +121,64 @@ fn many_items_at_once(rt: HostRuntime) -> Result<(), Fail> {
     }
     Ok(())
 }
+
+// A place of a list of the ints from 0 to 99, and how many items are taken out there one after the other; then the last of them, the
+// first and the last item of those that are left, and how many these are.
+const TAKEN: [(usize, usize, i32, i32, i32, usize); 8] = [
+    (0, 10, 9, 10, 99, 90),
+    (3, 1, 13, 10, 99, 89),
+    (80, 2, 92, 10, 99, 87),
+    (0, 35, 45, 46, 99, 52),
+    (1, 10, 56, 46, 99, 42),
+    (20, 1, 76, 46, 99, 41),
+    (0, 41, 99, -1, -1, 0),
+    (0, 1, -1, -1, -1, 0),
+];
+
+#[test]
+fn items_that_go(rt: HostRuntime) -> Result<(), Fail> {
+    let mut heap = placed(rt.alloc(), 0, &[Shape::List(ARRAY_LIST, 100)])?;
+    for (at, times, before, first, last, size) in &TAKEN {
+        let mut found = -1;
+        for _ in 0..*times {
+            found = taken(heap.cut(0, *at));
+        }
+        assert!(rt; found == *before);
+        let found = number(heap.items(0).first());
+        assert!(rt; found == *first);
+        let found = number(heap.items(0).last());
+        assert!(rt; found == *last);
+        let found = heap.size(0);
+        assert!(rt; found == *size);
+    }
+    Ok(())
+}
+
+// A place of a list of the ints from 0 to 39, of which the first 35 have gone, and what is inserted there; then the four items in
+// front.
+const CAME: [(usize, i32, [i32; 4]); 4] = [
+    (0, 50, [50, 35, 36, 37]),
+    (1, 51, [50, 51, 35, 36]),
+    (7, 52, [50, 51, 35, 36]),
+    (2, 53, [50, 51, 53, 35]),
+];
+
+#[test]
+fn items_that_come_behind_those_that_went(rt: HostRuntime) -> Result<(), Fail> {
+    let mut heap = placed(rt.alloc(), 10, &[Shape::List(ARRAY_LIST, 40)])?;
+    for _ in 0..35 {
+        taken(heap.cut(0, 0));
+    }
+    for (at, value, front) in &CAME {
+        heap.grow(0, *at, Value::Int(*value))?;
+        for (at, value) in front.iter().enumerate() {
+            let found = number(heap.items(0).get(at));
+            assert!(rt; found == *value);
+        }
+    }
+    let before = taken(heap.put(0, 8, Value::Int(54)));
+    assert!(rt; before == 52);
+    let last = number(heap.items(0).last());
+    assert!(rt; last == 54);
+    Ok(())
+}

@@ -1,7 +1,7 @@
 //! Values and objects of the rows.
 
 use object_heap::{Heap, HeapErr};
-use object_values::{Elements, Guard, Object, Owner, Pairs, Part, Target, Value};
+use object_values::{Elements, Guard, Object, Owner, Pairs, Part, Seed, Target, Value};
 use pl_types::classes::HASH_MAP;
 use pl_types::{Primitive, Ty};
 use pl_units::UText;
@@ -66,7 +66,7 @@ fn values(alloc: Global, count: i32) -> Result<Elements<Value>, AllocError> {
 }
 
 fn pairs(alloc: Global, count: i32, value: Plain) -> Result<Pairs, AllocError> {
-    let mut pairs = Pairs::new(alloc);
+    let mut pairs = Pairs::new(alloc, Seed::of(b"test"));
     for at in 0..count {
         let value = made(alloc, value)?;
         pairs.put(Value::Int(at), value)?;
@@ -228,7 +228,7 @@ pub fn place(heap: &mut Heap, shape: Shape) -> Result<u32, AllocError> {
 
 /// A heap of these objects, which are not charged, with so much room left.
 pub fn placed(alloc: Global, room: u64, shapes: &[Shape]) -> Result<Heap, AllocError> {
-    let mut heap = Heap::new(alloc, room);
+    let mut heap = Heap::new(alloc, room, Seed::of(b"test"));
     for shape in shapes {
         place(&mut heap, *shape)?;
     }

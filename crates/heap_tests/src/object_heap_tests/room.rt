@@ -2,7 +2,7 @@
 
 use super::making::{Shape, add, counted, object, place, placed, renew};
 use object_heap::{Answer, Heap, HeapErr, throw};
-use object_values::{Elements, Value};
+use object_values::{Elements, Seed, Value};
 use pl_types::classes::{ARITHMETIC_EXCEPTION, ARRAY_LIST, HASH_MAP, HASH_SET};
 use pl_units::UText;
 use std::alloc::AllocError;
@@ -42,7 +42,7 @@ fn number_of(answer: Result<u32, HeapErr>) -> i64 {
 fn weights(rt: HostRuntime) -> Result<(), Fail> {
     for (shape, weight) in &WEIGHTS {
         assert!(rt; *weight > 0);
-        let mut heap = Heap::new(rt.alloc(), *weight - 1);
+        let mut heap = Heap::new(rt.alloc(), *weight - 1, Seed::of(b"test"));
         let id = number_of(add(&mut heap, *shape));
         assert!(rt; id == -1);
         let left = heap.room_left();
@@ -166,7 +166,7 @@ fn thrown(answer: Answer) -> i64 {
 #[test]
 fn throws(rt: HostRuntime) -> Result<(), Fail> {
     let message = UText::from_utf8(rt.alloc(), "/ by zero")?;
-    let mut heap = Heap::new(rt.alloc(), 10);
+    let mut heap = Heap::new(rt.alloc(), 10, Seed::of(b"test"));
     let id = thrown(throw(&mut heap, ARITHMETIC_EXCEPTION, Some(message)));
     assert!(rt; id == 0);
     let left = heap.room_left();

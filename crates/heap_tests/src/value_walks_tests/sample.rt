@@ -1,6 +1,6 @@
 //! A heap with objects of each kind.
 use object_heap::Heap;
-use object_values::{Elements, Guard, Object, Pairs, Part, Target, Value};
+use object_values::{Elements, Guard, Object, Pairs, Part, Seed, Target, Value};
 use pl_types::classes::{
     ARRAY_LIST, EXCEPTION, FUNCTION, HASH_MAP, HASH_SET, ILLEGAL_ARGUMENT_EXCEPTION,
 };
@@ -54,7 +54,7 @@ fn pairs(
     second: &str,
     two: Value,
 ) -> Result<Pairs, AllocError> {
-    let mut pairs = Pairs::new(alloc);
+    let mut pairs = Pairs::new(alloc, Seed::of(b"test"));
     pairs.put(word(alloc, first)?, one)?;
     pairs.put(word(alloc, second)?, two)?;
     Ok(pairs)
@@ -166,7 +166,7 @@ fn place_others(alloc: Global, heap: &mut Heap) -> Result<(), AllocError> {
 
 /// Objects of each kind. 23 and 24 are lists that hold themselves, and 25 is an empty one.
 pub fn sample(alloc: Global) -> Result<Heap, AllocError> {
-    let mut heap = Heap::new(alloc, 0);
+    let mut heap = Heap::new(alloc, 0, Seed::of(b"test"));
     place_lists(alloc, &mut heap)?;
     place_keyed(alloc, &mut heap)?;
     place_views(alloc, &mut heap)?;

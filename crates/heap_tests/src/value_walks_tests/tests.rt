@@ -1,10 +1,12 @@
 //! Equality and texts of values, at the edges of depth and of visits.
 use super::sample::{sample, tower, word};
 use object_heap::Heap;
-use object_values::Value;
+use object_values::{Seed, Value};
 use std::alloc::{AllocError, Global};
 use std::test::Fail;
-use value_walks::{TextErr, VISITS, Walked, equal, push_text, text};
+use value_walks::{
+    Output, TextErr, VISITS, Walked, equal, equal_entries, push_text, text, text_within,
+};
 
 // Pairs of objects, and whether they are equal: `Some(true)`, `Some(false)`, or `None` for Deep.
 const EQUAL: [(u32, u32, Option<bool>); 24] = [
@@ -127,7 +129,7 @@ const NUMBERS: [(i64, &str); 4] = [
 
 #[test]
 fn values_have_texts(rt: HostRuntime) -> Result<(), Fail> {
-    let heap = Heap::new(rt.alloc(), 0);
+    let heap = Heap::new(rt.alloc(), 0, Seed::of(b"test"));
     for (number, wanted) in &NUMBERS {
         let holds = has_text(&heap, &Value::Long(*number), *wanted)?;
         assert!(rt; holds, "{wanted}");
@@ -151,13 +153,59 @@ fn a_budget_counts_each_visit(rt: HostRuntime) -> Result<(), Fail> {
     assert!(rt; enough);
     let large = equal(&heap, &Value::Ref(0), &Value::Ref(1), 3) == Walked::Large;
     assert!(rt; large);
-    let mut out = Vec::new(rt.alloc());
+    let mut out = Output::new(rt.alloc(), 100);
     let written = push_text(&heap, &Value::Ref(5), 5, &mut out) == Ok(0);
     assert!(rt; written);
     let refused = push_text(&heap, &Value::Ref(5), 4, &mut out) == Err(TextErr::Large);
     assert!(rt; refused);
     let entries = push_text(&heap, &Value::Ref(13), 7, &mut out) == Ok(0);
     assert!(rt; entries);
+    Ok(())
+}
+
+// An object, the room for its text, and the units that it has; or `None` where it is longer.
+const LENGTHS: [(u32, u64, Option<usize>); 6] = [
+    (0, 12, Some(12)),
+    (0, 11, None),
+    (3, 6, Some(6)),
+    (3, 5, None),
+    (14, 2, None),
+    (99, 0, Some(0)),
+];
+
+fn has_length(heap: &Heap, id: u32, room: u64, wanted: Option<usize>) -> bool {
+    match text_within(heap, &Value::Ref(id), VISITS, room) {
+        Ok(Some(text)) => wanted == Some(text.len()),
+        Ok(None) => wanted.is_none(),
+        Err(_) => false,
+    }
+}
+
+#[test]
+fn a_text_is_made_where_there_is_room(rt: HostRuntime) -> Result<(), Fail> {
+    let heap = sample(rt.alloc())?;
+    for (id, room, wanted) in &LENGTHS {
+        let holds = has_length(&heap, *id, *room, *wanted);
+        assert!(rt; holds, "{id} {room}");
+    }
+    let deep = text_within(&heap, &Value::Ref(23), VISITS, 3);
+    assert!(rt; deep.is_err());
+    let large = text_within(&heap, &Value::Ref(0), 3, 3);
+    assert!(rt; large.is_err());
+    Ok(())
+}
+
+// The entries of "a" in 5 and 6, which are a visit, and then their keys and their values.
+#[test]
+fn entries_are_visited_like_objects(rt: HostRuntime) -> Result<(), Fail> {
+    let heap = sample(rt.alloc())?;
+    let key = word(rt.alloc(), "a")?;
+    let enough = equal_entries(&heap, 5, &key, 6, &key, 3) == Walked::On(true, 0);
+    assert!(rt; enough);
+    let large = equal_entries(&heap, 5, &key, 6, &key, 2) == Walked::Large;
+    assert!(rt; large);
+    let objects = equal(&heap, &Value::Ref(14), &Value::Ref(15), 3) == Walked::On(true, 0);
+    assert!(rt; objects);
     Ok(())
 }
 
@@ -170,7 +218,7 @@ const TOWERS: [(u32, &[u32], u8); 4] = [
 ];
 
 fn ends(alloc: Global, levels: u32, times: &[u32], wanted: u8) -> Result<bool, AllocError> {
-    let mut heap = Heap::new(alloc, 0);
+    let mut heap = Heap::new(alloc, 0, Seed::of(b"test"));
     let a = tower(alloc, &mut heap, levels, times)?;
     let b = tower(alloc, &mut heap, levels, times)?;
     let compared = match equal(&heap, &Value::Ref(a), &Value::Ref(b), VISITS) {
@@ -178,7 +226,7 @@ fn ends(alloc: Global, levels: u32, times: &[u32], wanted: u8) -> Result<bool, A
         Walked::Deep => 1,
         Walked::Large => 2,
     };
-    let mut out = Vec::new(alloc);
+    let mut out = Output::new(alloc, 0);
     let written = match push_text(&heap, &Value::Ref(a), VISITS, &mut out) {
         Ok(_) => 0,
         Err(TextErr::Deep) => 1,

@@ -2,6 +2,7 @@
 use super::shown::shown;
 use json_bridge::{NumErr, bind};
 use object_heap::Heap;
+use object_values::Seed;
 use serde_json::Value as Json;
 use std::alloc::Global;
 
@@ -13,7 +14,7 @@ fn is_bound(alloc: Global, json: &str, frozen: bool, wanted: &str) -> bool {
     let Ok(json) = Json::from_str(alloc, json) else {
         return wanted == "syntax";
     };
-    let mut heap = Heap::new(alloc, ROOM);
+    let mut heap = Heap::new(alloc, ROOM, Seed::of(b"test"));
     match bind(&mut heap, &json, frozen) {
         Ok(value) => match shown(alloc, &heap, &value) {
             Ok(text) => text.as_str() == wanted && heap.room_left() == ROOM,
@@ -112,7 +113,7 @@ fn nested(alloc: Global, levels: usize) -> Option<String> {
 fn objects_of(alloc: Global, levels: usize) -> Option<usize> {
     let text = nested(alloc, levels)?;
     let json = Json::from_str(alloc, text.as_str()).ok()?;
-    let mut heap = Heap::new(alloc, ROOM);
+    let mut heap = Heap::new(alloc, ROOM, Seed::of(b"test"));
     let _bound = bind(&mut heap, &json, false).ok()?;
     Some(heap.len())
 }

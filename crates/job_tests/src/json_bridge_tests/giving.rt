@@ -2,7 +2,7 @@
 use super::sample::{list, sample};
 use json_bridge::{GiveErr, bind, give};
 use object_heap::Heap;
-use object_values::{Elements, Value};
+use object_values::{Elements, Seed, Value};
 use serde_json::Value as Json;
 use std::alloc::{AllocError, Global};
 
@@ -29,7 +29,7 @@ fn comes_back(alloc: Global, json: &str, wanted: &str) -> bool {
     let Ok(json) = Json::from_str(alloc, json) else {
         return false;
     };
-    let mut heap = Heap::new(alloc, ROOM);
+    let mut heap = Heap::new(alloc, ROOM, Seed::of(b"test"));
     match bind(&mut heap, &json, false) {
         Ok(value) => is_given(alloc, &heap, &value, wanted),
         Err(_) => false,
@@ -112,7 +112,7 @@ fn each_kind(rt: HostRuntime) {
 
 /// A value in so many lists.
 fn nested(alloc: Global, inner: Value, levels: u32) -> Result<(Heap, Value), AllocError> {
-    let mut heap = Heap::new(alloc, ROOM);
+    let mut heap = Heap::new(alloc, ROOM, Seed::of(b"test"));
     let mut value = inner;
     for _ in 0..levels {
         let mut items = Elements::new(alloc);
@@ -144,7 +144,7 @@ fn the_deepest(rt: HostRuntime) {
 
 /// A list that stands in so many others, in each of them twice.
 fn doubled(alloc: Global, levels: u32) -> Result<(Heap, Value), AllocError> {
-    let mut heap = Heap::new(alloc, ROOM);
+    let mut heap = Heap::new(alloc, ROOM, Seed::of(b"test"));
     let mut id = heap.place(list(Elements::new(alloc)))?;
     for _ in 0..levels {
         let mut items = Elements::new(alloc);
@@ -166,7 +166,7 @@ fn nulls(alloc: Global, count: u32) -> Result<Elements<Value>, AllocError> {
 
 /// A list of 999 times one list of 999 nulls, of 999 nulls, which are 1,000,000 nodes, and of another value, if there is one.
 fn large(alloc: Global, more: Option<Value>) -> Result<(Heap, Value), AllocError> {
-    let mut heap = Heap::new(alloc, ROOM);
+    let mut heap = Heap::new(alloc, ROOM, Seed::of(b"test"));
     let id = heap.place(list(nulls(alloc, 999)?))?;
     let mut items = nulls(alloc, 999)?;
     for _ in 0..999 {

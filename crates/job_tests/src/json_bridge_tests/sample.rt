@@ -1,6 +1,6 @@
 //! A heap with objects of each kind.
 use object_heap::Heap;
-use object_values::{Elements, Guard, Object, Pairs, Part, Target, Value};
+use object_values::{Elements, Guard, Object, Pairs, Part, Seed, Target, Value};
 use pl_types::classes::{ARRAY_LIST, EXCEPTION, HASH_MAP, HASH_SET};
 use pl_types::{Primitive, Ty};
 use pl_units::UText;
@@ -50,7 +50,7 @@ fn map_of(
     other: Value,
     more: Value,
 ) -> Result<Object, AllocError> {
-    let mut pairs = Pairs::new(alloc);
+    let mut pairs = Pairs::new(alloc, Seed::of(b"test"));
     pairs.put(key, value)?;
     pairs.put(other, more)?;
     Ok(map(pairs))
@@ -70,7 +70,7 @@ fn plain_values(alloc: Global) -> Result<Object, AllocError> {
 
 // 2: a set.
 fn set(alloc: Global) -> Result<Object, AllocError> {
-    let mut items = Pairs::new(alloc);
+    let mut items = Pairs::new(alloc, Seed::of(b"test"));
     items.put(text(alloc, "x")?, Value::Null)?;
     items.put(Value::Int(1), Value::Null)?;
     Ok(Object::Set {
@@ -111,7 +111,7 @@ fn place_forms(alloc: Global, heap: &mut Heap) -> Result<(), AllocError> {
     heap.place(view(1, Part::Keys))?;
     heap.place(view(1, Part::Values))?;
     heap.place(view(1, Part::Entries))?;
-    heap.place(map(Pairs::new(alloc)))?;
+    heap.place(map(Pairs::new(alloc, Seed::of(b"test"))))?;
     heap.place(view(7, Part::Entries))?;
     Ok(())
 }
@@ -179,7 +179,7 @@ fn place_rest(alloc: Global, heap: &mut Heap) -> Result<(), AllocError> {
     heap.place(pair(alloc, Value::Null, Value::Ref(23))?)?;
     heap.place(pair(alloc, Value::Ref(11), Value::Ref(23))?)?;
     heap.place(pair(alloc, Value::Ref(23), Value::Ref(11))?)?;
-    let mut items = Pairs::new(alloc);
+    let mut items = Pairs::new(alloc, Seed::of(b"test"));
     items.put(Value::Null, Value::Null)?;
     items.put(Value::Long(1), Value::Null)?;
     heap.place(Object::Set {
@@ -193,7 +193,7 @@ fn place_rest(alloc: Global, heap: &mut Heap) -> Result<(), AllocError> {
 
 /// The heap, its objects by their numbers as said above.
 pub fn sample(alloc: Global) -> Result<Heap, AllocError> {
-    let mut heap = Heap::new(alloc, 0);
+    let mut heap = Heap::new(alloc, 0, Seed::of(b"test"));
     place_forms(alloc, &mut heap)?;
     place_others(alloc, &mut heap)?;
     place_keys(alloc, &mut heap)?;

@@ -2,7 +2,7 @@
 use super::shown::{lists_shown, start_shown};
 use job_file::Mapping;
 use json_reading::Scratch;
-use search_ctx::{BindErr, Bound, Fields, SearchKind, bind_line};
+use search_ctx::{BindErr, Bound, Fields, SearchKind, Seed, bind_line};
 use serde_json::Value as Json;
 use std::alloc::{AllocError, Global};
 
@@ -28,7 +28,16 @@ pub fn bound(
         return Err(BindErr::NoMemory);
     };
     match Json::from_str(alloc, texts.1) {
-        Ok(params) => bind_line(alloc, kind, &fields, &params, line, ROOM, scratch),
+        Ok(params) => bind_line(
+            alloc,
+            kind,
+            &fields,
+            &params,
+            line,
+            ROOM,
+            Seed::of(b"job"),
+            scratch,
+        ),
         Err(_) => Err(BindErr::NoMemory),
     }
 }

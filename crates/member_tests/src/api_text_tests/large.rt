@@ -1,12 +1,14 @@
 //! Large texts and builders: what takes too long does not end the test in time.
 use api_text::call;
 use object_heap::{Answer, Heap};
-use object_values::{Elements, Object, Value};
+use object_values::{Elements, Object, Seed, Value};
 use pl_units::UText;
 use std::alloc::{AllocError, Global};
 use std::test::Fail;
 
 const APPEND: u32 = 81;
+
+const DELETE_CHAR_AT: u32 = 82;
 
 const SET_LENGTH: u32 = 85;
 
@@ -23,7 +25,7 @@ fn word(alloc: Global, text: &str) -> Result<Value, AllocError> {
 }
 
 fn builder(alloc: Global, room: u64) -> Result<Heap, AllocError> {
-    let mut heap = Heap::new(alloc, room);
+    let mut heap = Heap::new(alloc, room, Seed::of(b"test"));
     heap.place(Object::Builder {
         units: Elements::new(alloc),
     })?;
@@ -62,6 +64,36 @@ fn appended(alloc: Global) -> Result<usize, AllocError> {
 fn a_million_appends(rt: HostRuntime) -> Result<(), Fail> {
     let count = appended(rt.alloc())?;
     assert!(rt; count == UNITS, "{count}");
+    Ok(())
+}
+
+// A call of a member of the builder with a number.
+fn changed(heap: &mut Heap, member: u32, number: i32) -> Result<Answer, AllocError> {
+    let mut args = Vec::new(heap.alloc());
+    args.push(Value::Ref(0))?;
+    args.push(Value::Int(number))?;
+    Ok(call(member, heap, args.as_slice()))
+}
+
+// How many units are left of a long builder, of which the first and the last go by turns.
+fn emptied(alloc: Global) -> Result<usize, AllocError> {
+    let mut heap = builder(alloc, 2_000_000)?;
+    let long = is_value(&changed(&mut heap, SET_LENGTH, 1_000_000)?);
+    for turn in 0..UNITS {
+        let last = heap.units(0).len().saturating_sub(1);
+        let at = if turn % 2 == 0 { 0 } else { last };
+        let answer = changed(&mut heap, DELETE_CHAR_AT, i32::try_from(at).unwrap_or(0))?;
+        if !(long && is_value(&answer)) {
+            return Ok(UNITS);
+        }
+    }
+    Ok(heap.units(0).len())
+}
+
+#[test]
+fn a_million_deletions(rt: HostRuntime) -> Result<(), Fail> {
+    let count = emptied(rt.alloc())?;
+    assert!(rt; count == 0, "{count}");
     Ok(())
 }
 
@@ -104,7 +136,7 @@ fn called(
 #[test]
 fn a_million_occurrences(rt: HostRuntime) -> Result<(), Fail> {
     let alloc = rt.alloc();
-    let mut heap = Heap::new(alloc, 10_000_000);
+    let mut heap = Heap::new(alloc, 10_000_000, Seed::of(b"test"));
     let longer = length_of(&called(alloc, &mut heap, REPLACE, &["a", "bc"])?);
     let place = number_of(&called(alloc, &mut heap, INDEX_OF, &["b"])?);
     let made = is_value(&called(alloc, &mut heap, SPLIT_ON_TOKEN, &["a"])?);

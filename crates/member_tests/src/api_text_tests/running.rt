@@ -2,7 +2,7 @@
 use super::rows::{Arg, Row, Wanted};
 use api_text::call;
 use object_heap::{Answer, Heap};
-use object_values::{Elements, Guard, Object, Pairs, Part, Value};
+use object_values::{Elements, Guard, Object, Pairs, Part, Seed, Value};
 use pl_types::classes::{
     ARRAY_LIST, HASH_MAP, HASH_SET, ILLEGAL_STATE_EXCEPTION, NULL_POINTER_EXCEPTION,
     RUNTIME_EXCEPTION, STRING, STRING_INDEX_OUT_OF_BOUNDS_EXCEPTION,
@@ -37,7 +37,7 @@ fn mixed(alloc: Global) -> Result<Object, AllocError> {
 }
 
 fn set(alloc: Global) -> Result<Object, AllocError> {
-    let mut items = Pairs::new(alloc);
+    let mut items = Pairs::new(alloc, Seed::of(b"test"));
     items.put(Value::Str(text(alloc, "x")?), Value::Null)?;
     items.put(Value::Str(text(alloc, "y")?), Value::Null)?;
     Ok(Object::Set {
@@ -49,7 +49,7 @@ fn set(alloc: Global) -> Result<Object, AllocError> {
 }
 
 fn map(alloc: Global) -> Result<Object, AllocError> {
-    let mut pairs = Pairs::new(alloc);
+    let mut pairs = Pairs::new(alloc, Seed::of(b"test"));
     pairs.put(Value::Str(text(alloc, "k")?), Value::Int(1))?;
     pairs.put(Value::Str(text(alloc, "l")?), Value::Null)?;
     Ok(Object::Map {
@@ -91,7 +91,7 @@ fn place_exceptions(alloc: Global, heap: &mut Heap) -> Result<(), AllocError> {
 // 0 is a builder of `abc`, 1 a list of a text, null and an int, 2 an empty list, 3 a set, 4 a map, 5 to 7 its views, 8 an
 // exception without a message, 9 one with a message, and 10 a list that holds itself.
 fn sample(alloc: Global, room: u64) -> Result<Heap, AllocError> {
-    let mut heap = Heap::new(alloc, room);
+    let mut heap = Heap::new(alloc, room, Seed::of(b"test"));
     let mut units = Elements::new(alloc);
     units.extend(&[97, 98, 99])?;
     heap.place(Object::Builder { units })?;

@@ -2,6 +2,9 @@
 use Rattle.std.proofs.Common.{◌≡◌, Some, option_map, string_bytes, ap}
 use Rattle.std.proofs.lemmas.Result.{err_from_is_err_and}
 use Rattle.job_loading.proofs.Found.{one_found, listed, whole}
+use Rattle.command_parts.proofs.Asking.{asks_none}
+use Rattle.job_loading.specs.Asked.{list_asked}
+use Rattle.job_loading.proofs.Asking.{list_so}
 use Rattle.job_loading.proofs.reading.list_for.Goals as goal
 
 pub returns-in-Some-clause-told : goal.returns-in-Some-clause-told
@@ -21,3 +24,14 @@ returns-in_err-full-in-None-clause-told g c =
     let found = one_found (g.F.Files.content c.args.files.now) c.args.name.now (Some c.args.bytes.now) c.requires.shown in
     let exit = err_from_is_err_and c.from_residual.result c.from_residual.ensures.1 in
     (found.0, found.1, found.2, rw (exit.1, exit.2) tt)
+
+pub returns-in-Some-clause-asks : goal.returns-in-Some-clause-asks
+returns-in-Some-clause-asks g c =
+    list_so (g.F.Files.asked c.args.files.now) (g.F.Files.asked c.list_named.new.files) c.args.name.now (option_map string_bytes c.args.job.now.allow) (Some c.as_str.result.now)
+    (let named : option_map string_bytes c.args.job.now.allow ≡ Some (string_bytes c.in-Some.allow) = ap (option_map string_bytes) c.in-Some.is in cc) c.list_named.ensures.asks
+
+pub returns-in_ok-full-in-None-clause-asks : goal.returns-in_ok-full-in-None-clause-asks
+returns-in_ok-full-in-None-clause-asks g c = asks_none (g.F.Files.asked c.args.files.now) (list_asked c.args.name.now (option_map string_bytes c.args.job.now.allow))
+
+pub returns-in_err-full-in-None-clause-asks : goal.returns-in_err-full-in-None-clause-asks
+returns-in_err-full-in-None-clause-asks g c = asks_none (g.F.Files.asked c.args.files.now) (list_asked c.args.name.now (option_map string_bytes c.args.job.now.allow))

@@ -1,6 +1,8 @@
 -- The job's file is none.
+use Rattle.std.proofs.Common.{sym}
 use Rattle.std.proofs.lemmas.Result.{err_from_is_err_and}
 use Rattle.job_loading.proofs.Found.{file_missing}
+use Rattle.job_loading.proofs.Asking.{file_asked, both_asked}
 use Rattle.job_loading.proofs.reading.read_job.Goals as goal
 
 pub returns-in_err-bytes-clause-told : goal.returns-in_err-bytes-clause-told
@@ -9,3 +11,13 @@ returns-in_err-bytes-clause-told g c =
     let missing = file_missing (g.F.Files.content c.args.files.now) c.args.command c.args.name.now found.0 c.in_err-bytes.field-0.0 found.1 found.2 in
     let exit = err_from_is_err_and c.from_residual.result c.from_residual.ensures.1 in
     (missing.0, missing.1, rw (exit.1, exit.2) missing.2)
+
+pub returns-in_err-bytes-clause-asked : goal.returns-in_err-bytes-clause-asked
+returns-in_err-bytes-clause-asked g c =
+    file_asked (g.F.Files.content c.args.files.now) (g.F.Files.asked c.args.files.now) (g.F.Files.asked c.read_file.new.files) c.args.command c.args.name.now c.in_err-bytes.ensures.asks
+
+pub returns-clause-asked : goal.returns-clause-asked
+returns-clause-asked g c =
+    let told = c.job_with_list.ensures.told in
+    both_asked (g.F.Files.content c.args.files.now) (g.F.Files.asked c.args.files.now) (g.F.Files.asked c.read_file.new.files) (g.F.Files.asked c.job_with_list.new.files) c.args.command c.args.name.now
+    c.as_slice.result.now told.0 (rw c.in_ok-bytes.ensures.kept at told.1) told.2 (rw (sym c.as_slice.ensures.value) at c.in_ok-bytes.ensures.within) c.in_ok-bytes.ensures.noted c.job_with_list.ensures.asks

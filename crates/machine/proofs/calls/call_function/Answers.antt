@@ -15,6 +15,6 @@ pub returns-in-None-clause-exact : goal.returns-in-None-clause-exact
 returns-in-None-clause-exact c =
     as_well _ _ _ _
     (ap (λ (counted : Counted). on_words (take_words (length c.args.function.now.params) c.args.run.now.frames.top.stack [])
-    (λ args stack. on_enter (codes_alone c.args.code.now.functions) (limits_in c.args.limits.now) counted c.args.number c.args.function.now [] c.args.run.now.frames.top c.args.run.now.frames.below (world_of c.args.run.now.world) args stack))
+    (λ args stack. on_enter (codes_alone c.args.code.now.functions) (limits_in c.args.limits.now) counted c.args.run.now.frames.top.text c.args.number c.args.function.now [] c.args.run.now.frames.top c.args.run.now.frames.below (world_of c.args.run.now.world) args stack))
     (ap (λ depth. enter (limits_in c.args.limits.now) depth (world_of c.args.run.now.world)) (sym c.depth.ensures) ∙ c.in-None.ensures.exact))
     c.push_frame.ensures.exact

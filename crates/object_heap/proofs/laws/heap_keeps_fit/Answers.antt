@@ -1,7 +1,7 @@
 use Rattle.std.proofs.Common.{[], ◌∷◌, ◌++◌}
-use Rattle.object_heap.specs.Objects.{with_inserted, with_all_inserted, with_put, with_all_put, with_units, renewed_by}
+use Rattle.object_heap.specs.Objects.{with_inserted, with_all_inserted, with_put, with_all_put, with_units, with_spliced, renewed_by}
 use Rattle.object_heap.specs.Store.{with_change}
-use Rattle.object_heap.proofs.Fitting.{added_fits, put_fits, grow_fits, extend_fits, cut_fits, map_put_fits, map_extend_fits, map_cut_fits, map_cut_at_fits, append_fits, renew_fits, refill_fits, items_fit, values_fit, captures_fit}
+use Rattle.object_heap.proofs.Fitting.{added_fits, put_fits, grow_fits, extend_fits, cut_fits, map_put_fits, map_extend_fits, map_cut_fits, map_cut_at_fits, append_fits, splice_fits, renew_fits, refill_fits, items_fit, values_fit, captures_fit}
 use Rattle.object_heap.proofs.Keeping.{pays_fits, pays_surely_fits, throws_fits, answers_fit}
 use Rattle.object_heap.proofs.laws.heap_keeps_fit.Goals as goal
 
@@ -55,6 +55,10 @@ returns-clause-map_cut_at c = map_cut_at_fits
 pub returns-clause-append : goal.returns-clause-append
 returns-clause-append c rules old new id more result p f =
     pays_fits rules old new (with_change old.objects id (with_units more)) 0 result p f (append_fits rules old.objects id more f)
+
+pub returns-clause-splice : goal.returns-clause-splice
+returns-clause-splice c rules old new id from to more result p f =
+    pays_fits rules old new (with_change old.objects id (with_spliced from to more)) 0 result p f (splice_fits rules old.objects id from to more f)
 
 pub returns-clause-throw : goal.returns-clause-throw
 returns-clause-throw c rules old new class message answer p f h = answers_fit rules _ old new answer p f (throws_fits rules old class message f h)

@@ -1,6 +1,7 @@
 use Rattle.std.proofs.Common.{◌≡◌, ℕ, List, Some, None, map, string_bytes}
 use Rattle.command_parts.proofs.Delivering.{some_content}
 use Rattle.painless.specs.Whole.{call_of, over_file, over_documents}
+use Rattle.painless.proofs.Asking.{words_ask, words_rest}
 use Rattle.painless.proofs.Delivered.{words_deliver, usage_delivers, gen_delivers}
 use Rattle.painless.proofs.top.painless.Goals as goal
 
@@ -31,3 +32,14 @@ returns-in-None-clause-told g c =
     let is : call_of words ≡ None = cc c.in-None.ensures in
     let d = usage_delivers words k.0 c.quiet.result (g.S.Source.left c.args.input.now) (g.K.Sink.held c.args.out.now) c.quiet.ensures.status c.quiet.ensures.quiet is in
     (k.0, k.1, d.0, d.1, d.2)
+
+pub returns-in-Some-File-clause-asked : goal.returns-in-Some-File-clause-asked
+returns-in-Some-File-clause-asked g c =
+    words_ask (g.F.Files.content c.args.files.now) (g.F.Files.asked c.args.files.now) (g.F.Files.asked c.called.new.files) (map string_bytes c.args.words.now) c.in-Some-File.command
+    c.in-Some-File.name.now (cc c.in-Some-File.ensures) c.called.ensures.asked
+
+pub returns-in-Some-Documents-clause-asked : goal.returns-in-Some-Documents-clause-asked
+returns-in-Some-Documents-clause-asked g c = words_rest (g.F.Files.content c.args.files.now) (g.F.Files.asked c.args.files.now) (map string_bytes c.args.words.now)
+
+pub returns-in-None-clause-asked : goal.returns-in-None-clause-asked
+returns-in-None-clause-asked g c = words_rest (g.F.Files.content c.args.files.now) (g.F.Files.asked c.args.files.now) (map string_bytes c.args.words.now)

@@ -4,7 +4,7 @@ use Rattle.script_engine.proofs.Listed.{codes_are_listed, prelude_is_listed}
 use Rattle.script_engine.proofs.laws.code_laws.Goals as goal
 
 pub returns-clause-listed : goal.returns-clause-listed
-returns-clause-listed c = codes_are_listed c.programs_end.ensures.ends
+returns-clause-listed c = codes_are_listed c.programs_end.ensures.ends c.programs_run.ensures.rows c.verified_run_laws.ensures.starts c.verified_run_laws.ensures.never_stuck
 
 pub returns-clause-prelude : goal.returns-clause-prelude
 returns-clause-prelude c = prelude_is_listed

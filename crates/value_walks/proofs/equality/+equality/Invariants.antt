@@ -11,8 +11,11 @@ decreases-found_equal l = 5 * l.levels + 1
 abbrev pub decreases-all_equal : goal.decreases-all_equal
 decreases-all_equal l = 5 * l.levels + 1
 
+abbrev pub decreases-both_equal : goal.decreases-both_equal
+decreases-both_equal l = 5 * l.levels + 1
+
 abbrev pub decreases-entries_equal : goal.decreases-entries_equal
-decreases-entries_equal l = 5 * l.levels + 1
+decreases-entries_equal l = 5 * l.levels + 2
 
 abbrev pub decreases-maps_equal : goal.decreases-maps_equal
 decreases-maps_equal l = 5 * l.levels + 2

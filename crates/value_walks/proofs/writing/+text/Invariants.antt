@@ -39,10 +39,10 @@ decreases-value_text l = 9 * l.levels + 7
 -- behind what was written comes the text of the items that are left
 abbrev pub invariant-items_text-loop-at : goal.invariant-items_text-loop-at
 invariant-items_text-loop-at l =
-    spec.before l.fn.out.items (spec.items_text (λ value. spec.node_at l.levels l.heap.objects (spec.AValue value)) l.items l.visits)
-    ≡ spec.before l.out.items (rest_text (λ value. spec.node_at l.levels l.heap.objects (spec.AValue value)) l.at (drop l.at l.items) l.rest)
+    spec.written l.fn.out (spec.items_text (λ value. spec.node_at l.levels l.heap.objects (spec.AValue value)) l.items l.visits)
+    ≡ spec.written l.out (rest_text (λ value. spec.node_at l.levels l.heap.objects (spec.AValue value)) l.at (drop l.at l.items) l.rest)
 
 abbrev pub invariant-all_pairs_text-loop-at : goal.invariant-all_pairs_text-loop-at
 invariant-all_pairs_text-loop-at l =
-    spec.before l.fn.out.items (spec.items_text (spec.shown_text (spec.node_at l.levels l.heap.objects) l.shown) l.pairs l.visits)
-    ≡ spec.before l.out.items (rest_text (spec.shown_text (spec.node_at l.levels l.heap.objects) l.shown) l.at (drop l.at l.pairs) l.rest)
+    spec.written l.fn.out (spec.items_text (spec.shown_text (spec.node_at l.levels l.heap.objects) l.shown) l.pairs l.visits)
+    ≡ spec.written l.out (rest_text (spec.shown_text (spec.node_at l.levels l.heap.objects) l.shown) l.at (drop l.at l.pairs) l.rest)

@@ -6,7 +6,7 @@ use Rattle.static_types.specs.Allow.{AllowList, flag}
 use Rattle.verified_machine.specs.Activations.{Activation}
 use Rattle.verified_machine.specs.Tasks.{ending}
 use Rattle.script_engine.specs.Running.{Comes}
-use Rattle.script_engine.proofs.Counted.{ending_counts}
+use Rattle.script_engine.proofs.Counted.{ending_bounded, ending_counts}
 use Rattle.script_engine.proofs.Fitting.{began_fits}
 use Rattle.script_engine.proofs.Runs.{ending_runs}
 use Rattle.script_engine.proofs.Typed.{scripts_give}
@@ -30,6 +30,11 @@ returns-clause-typed c = λ rules every f.
 pub returns-clause-counts : goal.returns-clause-counts
 returns-clause-counts c =
     IfOk-weaker c.finish_with_memory.result _ _ (λ ran comes. ending_counts c.args.self.now c.args.heap c.args.args.items c.args.limits ran.outcome
+    (subst (λ (a : Activation). Comes c.args.self.now.result (ending a) ran.outcome) c.in_ok-activation.ensures.begins comes)) c.finish_with_memory.ensures.comes
+
+pub returns-clause-bound : goal.returns-clause-bound
+returns-clause-bound c =
+    IfOk-weaker c.finish_with_memory.result _ _ (λ ran comes. ending_bounded c.args.self.now c.args.heap c.args.args.items c.args.limits ran.outcome
     (subst (λ (a : Activation). Comes c.args.self.now.result (ending a) ran.outcome) c.in_ok-activation.ensures.begins comes)) c.finish_with_memory.ensures.comes
 
 pub returns-clause-reaches : goal.returns-clause-reaches

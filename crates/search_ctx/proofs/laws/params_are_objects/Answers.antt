@@ -1,0 +1,5 @@
+use Rattle.search_ctx.proofs.Params.{job_params}
+use Rattle.search_ctx.proofs.laws.params_are_objects.Goals as goal
+
+pub returns : goal.returns
+returns c = job_params
