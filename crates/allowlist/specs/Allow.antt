@@ -29,6 +29,10 @@ prelude_list = record { classes = flags 56 1; members = flags 228 0 }
 abbrev pub empty_list : AllowList
 empty_list = record { classes = flags 0 57; members = flags 0 228 }
 
+-- the members that a list numbers, whether or not it allows them: those of the catalogue
+abbrev pub members_in : AllowList → List MemberType
+members_in allow = catalogue
+
 abbrev pub flag : List Bool → ℕ → Bool
 flag flags number = slice_index_or flags number false
 
@@ -47,7 +51,7 @@ is_called class name arity m = (m.owner == class) && has_name name arity m
 
 -- a class's own allowed member
 unfoldable pub own_member : AllowList → ℕ → List ℕ → ℕ → Option ℕ
-own_member allow class name arity = first_member (λ n m. flag allow.members n && is_called class name arity m) 0 catalogue
+own_member allow class name arity = first_member (λ n m. flag allow.members n && is_called class name arity m) 0 (members_in allow)
 
 abbrev pub or_else : Option ℕ → Option ℕ → Option ℕ
 or_else None other = other

@@ -6,7 +6,7 @@ use Rattle.std.specs.Cmp.Lexicographic.{slice_cmp}
 use Rattle.std.specs.List.{list_all, list_any, range_with_len}
 use Rattle.allowlist.specs.declared.member.MemberType.{MemberType}
 use Rattle.allowlist.specs.Catalogue.{catalogue, constructor}
-use Rattle.allowlist.specs.Allow.{is_called}
+use Rattle.allowlist.specs.Allow.{AllowList, is_called, members_in}
 
 -- how a member stands to a name and a number of parameters: by the bytes of the names, then by the numbers
 abbrev pub order_of : List ℕ → ℕ → MemberType → Ordering
@@ -21,8 +21,13 @@ abbrev pub ascends : List MemberType → Bool
 ascends [] = true
 ascends (m ∷ ms) = list_all (stands_before m) ms && ascends ms
 
+-- the member of the catalogue with a number
 abbrev pub member_at : ℕ → MemberType
 member_at number = slice_index_or catalogue number (constructor 0 [])
+
+-- the member of a list with a number, whether or not it allows it
+abbrev pub member_in : AllowList → ℕ → MemberType
+member_in allow number = slice_index_or (members_in allow) number (constructor 0 [])
 
 -- An index: the numbers of the members, each class's at the places that they have in the catalogue, and there in the order
 -- of their names and numbers of parameters.

@@ -4,7 +4,7 @@ ghost use Rattle.std.specs.Prelude.{◌≡◌, ◌≤◌, ◌<◌, Some, slice_g
 ghost use Rattle.pl_types.specs.Classes.{full_name};
 ghost use Rattle.allowlist.specs.Accessors.{accessor_name, arity_of, seen_name};
 ghost use Rattle.allowlist.specs.Catalogue.{catalogue};
-ghost use Rattle.allowlist.specs.Allow.{full_list, prelude_list, empty_list, own_member, member_of, iface_method_of, with_flag};
+ghost use Rattle.allowlist.specs.Allow.{full_list, prelude_list, empty_list, own_member, member_of, members_in, iface_method_of, with_flag};
 
 use crate::build::{flags, types};
 use crate::index::{index, member_called};
@@ -98,10 +98,10 @@ impl Allow {
         self.members.len() as u32
     }
 
-    /// A member by its number, whether or not this list allows it.
+    /// A member of this list by its number, whether or not the list allows it.
     pub fn member_type(&self, member: u32) -> &MemberType
         requires { member < length self.now.members }
-        ensures { slice_get catalogue member ≡ Some result.now }
+        ensures { slice_get (members_in self.now) member ≡ Some result.now }
     {
         &self.types[member as usize]
     }
@@ -172,7 +172,11 @@ impl Allow {
     }
 
     /// The list that allows nothing.
-    pub(crate) fn empty(alloc: Global) -> Result<Allow, AllocError>
+    ///
+    /// # Errors
+    ///
+    /// Want of memory.
+    pub fn empty(alloc: Global) -> Result<Allow, AllocError>
         ensures { IfOk result (λ allow. allow ≡ empty_list) }
     {
         let classes = flags(alloc, 0, 57)?;

@@ -5,7 +5,7 @@ ghost use Rattle.pl_types.specs.Classes.{class_is_below, parents_of};
 ghost use Rattle.allowlist.specs.declared.member.MemberKind.TheVariants.{Instance};
 ghost use Rattle.allowlist.specs.declared.member.MemberType.{MemberType};
 ghost use Rattle.allowlist.specs.Catalogue.{catalogue};
-ghost use Rattle.allowlist.specs.Allow.{AllowList, own_member, member_of, or_else, first_along, flag, iface_method_of};
+ghost use Rattle.allowlist.specs.Allow.{AllowList, own_member, member_of, members_in, or_else, first_along, flag, iface_method_of};
 
 use pl_types::class_laws;
 
@@ -19,10 +19,10 @@ pub fn catalogue_laws()
         ≡ or_else (own_member allow class name arity) (first_along (λ parent. member_of allow parent name arity) (parents_of class)) }
     // What is found is in the list, and is called so.
     ensures allowed { (allow : AllowList) (class : ℕ) (name : List ℕ) (arity number : ℕ) → member_of allow class name arity ≡ Some number
-        → (flag allow.members number ≡ true) × ((m : MemberType) × (slice_get catalogue number ≡ Some m) × (m.name ≡ name) × (length m.params ≡ arity)) }
+        → (flag allow.members number ≡ true) × ((m : MemberType) × (slice_get (members_in allow) number ≡ Some m) × (m.name ≡ name) × (length m.params ≡ arity)) }
     // The owner of what is found is the class or stands above it.
     ensures above { (allow : AllowList) (class : ℕ) (name : List ℕ) (arity number : ℕ) → member_of allow class name arity ≡ Some number
-        → (m : MemberType) × (slice_get catalogue number ≡ Some m) × (class_is_below class m.owner ≡ true) }
+        → (m : MemberType) × (slice_get (members_in allow) number ≡ Some m) × (class_is_below class m.owner ≡ true) }
     // The one method of a functional interface is an instance member of the interface or of what stands above it.
     ensures method { (class number : ℕ) → iface_method_of class ≡ Some number
         → (m : MemberType) × (slice_get catalogue number ≡ Some m) × (m.kind ≡ Instance) × (class_is_below class m.owner ≡ true) }

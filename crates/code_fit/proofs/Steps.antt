@@ -12,7 +12,8 @@ use Rattle.object_heap.specs.Effects.{Effect}
 use Rattle.object_heap.specs.Fits.{Rules, Fits, ValueFits, AllFit, ThrownFits}
 use Rattle.object_heap.specs.Store.{Store}
 use Rattle.allowlist.specs.declared.member.MemberType.{MemberType}
-use Rattle.allowlist.specs.Index.{member_at}
+use Rattle.allowlist.specs.Allow.{AllowList}
+use Rattle.allowlist.specs.Index.{member_in}
 use Rattle.instruction_types.specs.Members.{method_of, constructor_of, field_of}
 use Rattle.run_fit.specs.ContainerCallsLaws.{StillThere}
 use Rattle.run_fit.specs.Members.{does}
@@ -42,7 +43,7 @@ use Rattle.pl_code.specs.declared.code.FunCode.{FunCode}
 use Rattle.pl_code.specs.declared.code.Instruction.{Instruction}
 use Rattle.pl_code.specs.declared.code.Instruction.TheVariants as i
 use Rattle.run_state.specs.Calls.{suits_member, wrong_class}
-use Rattle.run_state.specs.World.{World, Limits, Outcome, Given, Raised, Full, acts_in, Counted, Counts, Passes, allowed_in, take_turn, enter, pay_member}
+use Rattle.run_state.specs.World.{World, Limits, Arose, not_told, Outcome, Given, Raised, Full, acts_in, Counted, Counts, Passes, allowed_in, take_turn, enter, pay_member}
 use Rattle.run_fit.specs.Laws.{DoneFits}
 use Rattle.run_fit.specs.Worlds.{WorldFits, count_in, OutcomeFits}
 use Rattle.run_fit.proofs.Counted.{SameStore, turn_keeps, call_keeps, member_keeps}
@@ -56,6 +57,7 @@ use Rattle.code_meaning.specs.Members.{Receiving, Unfit, OnNull, Receives, Reads
 use Rattle.code_meaning.specs.Words.{Calculation, NoRow, Calculates, boxed, calculation, unboxed, word_of, start_of, takes_one, is_shift, one_int, two_ints, one_long, two_longs, long_and_int, op_of, op_of_dynamic}
 use Rattle.arithmetic.specs.declared.operator.Op.{Op}
 use Rattle.code_meaning.specs.Machine.{Codes, code_in, function_of, Frame, Next, Goes, Ends, Stuck, Handlers, is_instance, lands, traps_of, unwind, on_top, on_int, on_reference, on_value, on_values, on_first, on_local, on_stack, on_words, to_line, take_words, copied, pushed, depth_of, is_written, on_outcome, on_done, on_thrown, on_found, on_found_paid, on_access, on_put, on_put_paid, on_write, dynamic_given, on_operated, operator_act, sized_act, method_act, on_calculation, on_given, cast_each, gives_back, returns, returns_of, on_turn, on_enter, on_call, on_act, on_paid, on_tested, on_received, plain_act, numbered_act, quoted_act, typed_act, member_act, act, acts, lines_of, step, start_at, after}
+use Rattle.code_fit.specs.CodeRules.{rules_of_codes}
 use Rattle.code_fit.specs.Laws.{StartsFit, StepsFit, RunsFit}
 use Rattle.code_fit.specs.Moments.{WordFits, WordsFit, FramesFit, ResultFits, NextFits}
 use Rattle.code_fit.proofs.Nexts.{int_holds, long_holds, type_holds, ints_hold, loops_hold, either_holds, chosen_holds, null_holds}
@@ -176,36 +178,36 @@ module _ (rules : Rules) (before : List Object) where
   module _ (codes : Codes) (limits : Limits) where
     -- ---- what is thrown
 
-    lands_fit : (hs : Handlers) (f : Frame) (fs : List Frame) (id : ℕ) (w : World) (further : Next) → Here w (f ∷ fs) → ThrownFits w.store.objects id → N further
-        → N (lands hs f.text f.fun f.locals f.turns f.due fs id w further)
-    lands_fit [] f fs id w further h t k = k
-    lands_fit (x ∷ xs) f fs id w further h t k = by_test (lands_fit xs f fs id w further h t k) (is_instance x.class id w) where
-      by_test : N (lands xs f.text f.fun f.locals f.turns f.due fs id w further) → (b : Bool)
-          → N (if b then Goes (record { top = record { text = f.text; fun = f.fun; line = x.at; locals = f.locals; stack = R (v.Ref id) ∷ []; turns = f.turns; due = f.due }; below = fs; world = w }) else lands xs f.text f.fun f.locals f.turns f.due fs id w further)
+    lands_fit : (hs : Handlers) (f : Frame) (fs : List Frame) (id : ℕ) (place : Arose) (w : World) (further : Next) → Here w (f ∷ fs) → ThrownFits w.store.objects id → N further
+        → N (lands hs f.text f.fun f.locals f.turns f.due fs id place w further)
+    lands_fit [] f fs id place w further h t k = k
+    lands_fit (x ∷ xs) f fs id place w further h t k = by_test (lands_fit xs f fs id place w further h t k) (is_instance x.class id w) where
+      by_test : N (lands xs f.text f.fun f.locals f.turns f.due fs id place w further) → (b : Bool)
+          → N (if b then Goes (record { top = record { text = f.text; fun = f.fun; line = x.at; locals = f.locals; stack = R (v.Ref id) ∷ []; turns = f.turns; due = f.due }; below = fs; world = w }) else lands xs f.text f.fun f.locals f.turns f.due fs id place w further)
       by_test rest true = record { world = h.0; frames = ((h.1.0.0, (t.0, tt)), h.1.1) }
       by_test rest false = rest
 
-    unwind_fits : (fs : List Frame) (id : ℕ) (w : World) → Here w fs → ThrownFits w.store.objects id → N (unwind codes fs id w)
-    unwind_fits [] id w h t = (h.0, t)
-    unwind_fits (f ∷ fs) id w h t = lands_fit (traps_of (function_of codes f) f.line) f fs id w (unwind codes fs id w) h t (unwind_fits fs id w (h.0, h.1.1) t)
+    unwind_fits : (fs : List Frame) (id : ℕ) (place : Arose) (w : World) → Here w fs → ThrownFits w.store.objects id → N (unwind codes fs id place w)
+    unwind_fits [] id place w h t = (h.0, t)
+    unwind_fits (f ∷ fs) id place w h t = lands_fit (traps_of (function_of codes f) f.line) f fs id place w (unwind codes fs id place w) h t (unwind_fits fs id place w (h.0, h.1.1) t)
 
     outcome_fits : (o : Outcome Value) (word : Value → Word) → ((n : ℕ) (value : Value) → ValueFits n value → WordFits n (word value)) → (f : Frame) (below : List Frame) (w : World) (stack : List Word)
         → Here w (f ∷ below) → WordsFit (count_in w) stack → OutcomeFits rules before (count_in w) o → N (on_outcome codes limits o word f below w stack)
     outcome_fits (Given value w') word k f below w stack h s g =
         line_fits f below w' (suc f.line) (word value ∷ stack) (g.0, frames_grow (count_in w) (count_in w') g.1 (f ∷ below) h.1) (k (count_in w') value g.2, words_grow (count_in w) (count_in w') g.1 stack s)
-    outcome_fits (Raised id w') word k f below w stack h s g = unwind_fits (f ∷ below) id w' (g.0, frames_grow (count_in w) (count_in w') g.1 (f ∷ below) h.1) g.2
+    outcome_fits (Raised id w') word k f below w stack h s g = unwind_fits (f ∷ below) id not_told w' (g.0, frames_grow (count_in w) (count_in w') g.1 (f ∷ below) h.1) g.2
     outcome_fits Full word k f below w stack h s g = h.0
 
     done_fits : (o : Outcome Value) (f : Frame) (below : List Frame) (w : World) (stack : List Word) → Here w (f ∷ below) → WordsFit (count_in w) stack → OutcomeFits rules before (count_in w) o
         → N (on_done codes limits o f below w stack)
     done_fits (Given value w') f below w stack h s g =
         line_fits f below w' (suc f.line) stack (g.0, frames_grow (count_in w) (count_in w') g.1 (f ∷ below) h.1) (words_grow (count_in w) (count_in w') g.1 stack s)
-    done_fits (Raised id w') f below w stack h s g = unwind_fits (f ∷ below) id w' (g.0, frames_grow (count_in w) (count_in w') g.1 (f ∷ below) h.1) g.2
+    done_fits (Raised id w') f below w stack h s g = unwind_fits (f ∷ below) id not_told w' (g.0, frames_grow (count_in w) (count_in w') g.1 (f ∷ below) h.1) g.2
     done_fits Full f below w stack h s g = h.0
 
     thrown_fits : (o : Outcome Value) (f : Frame) (below : List Frame) (w : World) → Here w (f ∷ below) → OutcomeFits rules before (count_in w) o → N (on_thrown codes limits o f below w)
     thrown_fits (Given value w') f below w h g = tt
-    thrown_fits (Raised id w') f below w h g = unwind_fits (f ∷ below) id w' (g.0, frames_grow (count_in w) (count_in w') g.1 (f ∷ below) h.1) g.2
+    thrown_fits (Raised id w') f below w h g = unwind_fits (f ∷ below) id not_told w' (g.0, frames_grow (count_in w) (count_in w') g.1 (f ∷ below) h.1) g.2
     thrown_fits Full f below w h g = h.0
 
     -- ---- the casts that are due
@@ -213,7 +215,7 @@ module _ (rules : Rules) (before : List Object) where
     given_on : (o : Outcome Value) (f : Frame) (below : List Frame) (w : World) (next : Value → World → Next) → Here w (f ∷ below) → OutcomeFits rules before (count_in w) o
         → ((value : Value) (w' : World) → Here w' (f ∷ below) → ValueFits (count_in w') value → N (next value w')) → N (on_given codes limits o f below w next)
     given_on (Given value w') f below w next h g k = k value w' (g.0, frames_grow (count_in w) (count_in w') g.1 (f ∷ below) h.1) g.2
-    given_on (Raised id w') f below w next h g k = unwind_fits (f ∷ below) id w' (g.0, frames_grow (count_in w) (count_in w') g.1 (f ∷ below) h.1) g.2
+    given_on (Raised id w') f below w next h g k = unwind_fits (f ∷ below) id not_told w' (g.0, frames_grow (count_in w) (count_in w') g.1 (f ∷ below) h.1) g.2
     given_on Full f below w next h g k = h.0
 
     each_fits : (tos : List Ty) (value : Value) (f : Frame) (below : List Frame) (w : World) → Here w (f ∷ below) → ValueFits (count_in w) value → N (cast_each codes limits tos value f below w)
@@ -309,11 +311,11 @@ module _ (rules : Rules) (before : List Object) where
       abbrev count : ℕ
       count = count_in w
 
-      member_fits : (o : Option ℕ) → N (member_act codes limits o f below w)
-      member_fits None = tt
-      member_fits (Some number) =
-          words_fit count (take_words (count_of (member_at number)) f.stack []) _ (take_fits count (count_of (member_at number)) f.stack [] here.1.0.1 tt)
-          (λ words stack g s. received_act_fits (received (member_at number) words) number (member_at number) f below w stack here s (received_fits count (member_at number) words g))
+      member_fits : (allow : AllowList) (o : Option ℕ) → N (member_act codes limits allow o f below w)
+      member_fits allow None = tt
+      member_fits allow (Some number) =
+          words_fit count (take_words (count_of (member_in allow number)) f.stack []) _ (take_fits count (count_of (member_in allow number)) f.stack [] here.1.0.1 tt)
+          (λ words stack g s. received_act_fits (received (member_in allow number) words) number (member_in allow number) f below w stack here s (received_fits count (member_in allow number) words g))
 
       calculation_fits : (c : Calculation) → CalculationFits count c → N (on_calculation codes limits c f below w)
       calculation_fits NoRow s = tt
@@ -505,9 +507,9 @@ module _ (rules : Rules) (before : List Object) where
       act_fits_here (i.Typed t of) = type_holds N tt (type_of_full of) _ (λ of. typed_fits t of)
       act_fits_here (i.Sized s of n) = type_holds N tt (type_of_full of) _ (λ of. sized_fits s of n)
       act_fits_here (i.DefCall name n) = method_fits name n
-      act_fits_here (i.Invoke method) = member_fits (method_of (allowed_in limits f.text) method)
-      act_fits_here (i.New constructor) = member_fits (constructor_of (allowed_in limits f.text) constructor)
-      act_fits_here (i.Field field) = member_fits (field_of (allowed_in limits f.text) field)
+      act_fits_here (i.Invoke method) = member_fits (allowed_in limits f.text) (method_of (allowed_in limits f.text) method)
+      act_fits_here (i.New constructor) = member_fits (allowed_in limits f.text) (constructor_of (allowed_in limits f.text) constructor)
+      act_fits_here (i.Field field) = member_fits (allowed_in limits f.text) (field_of (allowed_in limits f.text) field)
       act_fits_here (i.Lambda interface k n) = tt
       act_fits_here (i.Ref interface of word) = tt
       act_fits_here (i.NewRef interface of) = tt
@@ -517,18 +519,18 @@ module _ (rules : Rules) (before : List Object) where
       acts_fit (Some instruction) = act_fits_here instruction
 
 pub steps_fit : StepsFit
-steps_fit rules before codes limits c h =
-    acts_fit rules before codes limits c.top c.below c.world (h.world, h.frames) (slice_get (lines_of codes limits (function_of codes c.top)) c.top.line)
+steps_fit before codes limits c h =
+    acts_fit (rules_of_codes codes) before codes limits c.top c.below c.world (h.world, h.frames) (slice_get (lines_of codes limits (function_of codes c.top)) c.top.line)
 
 pub runs_fit : RunsFit
-runs_fit rules before codes limits zero n h = h
-runs_fit rules before codes limits (suc k) (Goes c) h = runs_fit rules before codes limits k (step codes limits c) (steps_fit rules before codes limits c h)
-runs_fit rules before codes limits (suc k) (Ends r) h = h
-runs_fit rules before codes limits (suc k) Stuck h = tt
+runs_fit before codes limits zero n h = h
+runs_fit before codes limits (suc k) (Goes c) h = runs_fit before codes limits k (step codes limits c) (steps_fit before codes limits c h)
+runs_fit before codes limits (suc k) (Ends r) h = h
+runs_fit before codes limits (suc k) Stuck h = tt
 
 start_fits : (rules : Rules) (o : Option FunCode) (words : List Word) (w : World) → Fits rules w.store.objects → WordsFit (count_in w) words → NextFits rules w.store.objects (start_at o words w)
 start_fits rules None words w f h = tt
 start_fits rules (Some g) words w f h = record { world = beginnings_fit rules w f; frames = ((words_join (count_in w) words (map start_of g.locals) h (starts_fit (count_in w) g.locals), tt), tt) }
 
 pub starts_fit_all : StartsFit
-starts_fit_all rules codes words w f h = start_fits rules (slice_get codes.script 0) words w f h
+starts_fit_all codes words w f h = start_fits (rules_of_codes codes) (slice_get codes.script 0) words w f h

@@ -17,7 +17,8 @@ use Rattle.arithmetic.specs.Arithmetic.{wrapped, low_bits}
 use Rattle.run_state.specs.Outcomes.{effect, zero_divisor, null_error}
 use Rattle.def_access.specs.Effects.{Effect}
 use Rattle.allowlist.specs.declared.member.MemberType.{MemberType}
-use Rattle.allowlist.specs.Index.{member_at}
+use Rattle.allowlist.specs.Allow.{AllowList}
+use Rattle.allowlist.specs.Index.{member_in}
 use Rattle.instruction_types.specs.Members.{method_of, constructor_of, field_of}
 use Rattle.def_access.specs.Members.{does}
 use Rattle.def_access.specs.Making.{list_made, map_made, array_filled, array_made}
@@ -48,7 +49,7 @@ use Rattle.pl_code.specs.declared.code.FunCode.{FunCode}
 use Rattle.pl_code.specs.declared.code.Instruction.{Instruction}
 use Rattle.pl_code.specs.declared.code.Instruction.TheVariants as i
 use Rattle.run_state.specs.Calls.{suits_member, wrong_class}
-use Rattle.run_state.specs.World.{World, Limits, Room, End, Result, Uncaught, Limited, Outcome, Given, Raised, Full, acts_in, Counted, Counts, Passes, allowed_in, take_turn, enter, pay_member}
+use Rattle.run_state.specs.World.{World, Limits, Room, Arose, not_told, End, Result, Uncaught, Limited, Outcome, Given, Raised, Full, acts_in, Counted, Counts, Passes, allowed_in, take_turn, enter, pay_member}
 use Rattle.code_meaning.specs.declared.word.Word.{Word}
 use Rattle.code_meaning.specs.declared.word.Word.TheVariants.{I, J, R}
 use Rattle.code_meaning.specs.Members.{Receiving, Unfit, OnNull, Receives, Reads, received, count_of, given_as, taken, taken_result, references_in, taken_alike, ints_in}
@@ -129,21 +130,22 @@ unfoldable pub is_instance : Option ℕ → ℕ → World → Bool
 is_instance None id w = false
 is_instance (Some class) id w = exception_is class (slice_get w.store.objects id)
 
--- An exception in this frame: to the first handler of its class, or on to the frames below.
-abbrev pub lands : Handlers → Owner → ℕ → List Word → ℕ → List Ty → List Frame → ℕ → World → Next → Next
-lands [] text fun locals turns due below id w further = further
-lands (h ∷ hs) text fun locals turns due below id w further =
+-- An exception in this frame, and where it arose: to the first handler of its class, which forgets the place, or on to the frames below.
+abbrev pub lands : Handlers → Owner → ℕ → List Word → ℕ → List Ty → List Frame → ℕ → Arose → World → Next → Next
+lands [] text fun locals turns due below id place w further = further
+lands (h ∷ hs) text fun locals turns due below id place w further =
     if is_instance h.class id w
     then Goes (record { top = record { text = text; fun = fun; line = h.at; locals = locals; stack = R (v.Ref id) ∷ []; turns = turns; due = due }; below = below; world = w })
-    else lands hs text fun locals turns due below id w further
+    else lands hs text fun locals turns due below id place w further
 
 -- the function of a frame, in the code of its text
 abbrev pub function_of : Codes → Frame → Option FunCode
 function_of codes f = slice_get (code_in codes f.text) f.fun
 
-abbrev pub unwind : Codes → List Frame → ℕ → World → Next
-unwind codes [] id w = Ends (Uncaught id w)
-unwind codes (f ∷ fs) id w = lands (traps_of (function_of codes f) f.line) f.text f.fun f.locals f.turns f.due fs id w (unwind codes fs id w)
+abbrev pub unwind : Codes → List Frame → ℕ → Arose → World → Next
+unwind codes [] id place w = Ends (Uncaught id place w)
+unwind codes (f ∷ fs) id place w =
+    lands (traps_of (function_of codes f) f.line) f.text f.fun f.locals f.turns f.due fs id place w (unwind codes fs id place w)
 
 -- ---- one frame
 
@@ -244,20 +246,20 @@ module _ (codes : Codes) (limits : Limits) where
   -- what an operation on the store gives goes on the stack
   abbrev pub on_outcome : Outcome Value → (Value → Word) → Frame → List Frame → World → List Word → Next
   on_outcome (Given value w') word f below w stack = to_line f below w' (suc f.line) (word value ∷ stack)
-  on_outcome (Raised id w') word f below w stack = unwind codes (f ∷ below) id w'
-  on_outcome Full word f below w stack = Ends (Limited Room w)
+  on_outcome (Raised id w') word f below w stack = unwind codes (f ∷ below) id not_told w'
+  on_outcome Full word f below w stack = Ends (Limited Room not_told w)
 
   -- what an operation gives is dropped
   abbrev pub on_done : Outcome Value → Frame → List Frame → World → List Word → Next
   on_done (Given value w') f below w stack = to_line f below w' (suc f.line) stack
-  on_done (Raised id w') f below w stack = unwind codes (f ∷ below) id w'
-  on_done Full f below w stack = Ends (Limited Room w)
+  on_done (Raised id w') f below w stack = unwind codes (f ∷ below) id not_told w'
+  on_done Full f below w stack = Ends (Limited Room not_told w)
 
   -- what is thrown; what gives a value throws nothing
   abbrev pub on_thrown : Outcome Value → Frame → List Frame → World → Next
   on_thrown (Given value w') f below w = Stuck
-  on_thrown (Raised id w') f below w = unwind codes (f ∷ below) id w'
-  on_thrown Full f below w = Ends (Limited Room w)
+  on_thrown (Raised id w') f below w = unwind codes (f ∷ below) id not_told w'
+  on_thrown Full f below w = Ends (Limited Room not_told w)
 
   abbrev pub on_calculation : Calculation → Frame → List Frame → World → Next
   on_calculation NoRow f below w = Stuck
@@ -267,8 +269,8 @@ module _ (codes : Codes) (limits : Limits) where
   -- what an operation gives goes on, in the world that it left
   abbrev pub on_given : Outcome Value → Frame → List Frame → World → (Value → World → Next) → Next
   on_given (Given value w') f below w next = next value w'
-  on_given (Raised id w') f below w next = unwind codes (f ∷ below) id w'
-  on_given Full f below w next = Ends (Limited Room w)
+  on_given (Raised id w') f below w next = unwind codes (f ∷ below) id not_told w'
+  on_given Full f below w next = Ends (Limited Room not_told w)
 
   -- A value is cast to types, one after the other, each in the world that the one before it left, and then it goes on the caller's stack as
   -- a reference. What a cast throws is thrown in the caller.
@@ -288,13 +290,13 @@ module _ (codes : Codes) (limits : Limits) where
   gives_back (f ∷ fs) due result w = cast_due due result f fs w
 
   abbrev pub on_turn : Counted → ℕ → Frame → List Frame → World → List Word → Next
-  on_turn (Passes limit w') to f below w stack = Ends (Limited limit w')
+  on_turn (Passes limit w') to f below w stack = Ends (Limited limit not_told w')
   on_turn (Counts w') to f below w stack =
       Goes (record { top = record { text = f.text; fun = f.fun; line = to; locals = f.locals; stack = stack; turns = suc f.turns; due = f.due }; below = below; world = w' })
 
   -- Into a function of a text, whose code is g: its frame is of that text, and the frame below stays of its own.
   abbrev pub on_enter : Counted → Owner → ℕ → FunCode → List Ty → Frame → List Frame → World → List Word → List Word → Next
-  on_enter (Passes limit w') text k g due f below w args stack = Ends (Limited limit w')
+  on_enter (Passes limit w') text k g due f below w args stack = Ends (Limited limit not_told w')
   on_enter (Counts w') text k g due f below w args stack =
       Goes (record {
         top = record { text = text; fun = k; line = 0; locals = args ++ map start_of g.locals; stack = []; turns = 0; due = due };
@@ -333,7 +335,7 @@ module _ (codes : Codes) (limits : Limits) where
   on_found (Some given) f below w stack = on_outcome (acts_in w given) R f below w stack
 
   abbrev pub on_found_paid : Counted → ℕ → List Value → Frame → List Frame → List Word → Next
-  on_found_paid (Passes limit w) number arguments f below stack = Ends (Limited limit w)
+  on_found_paid (Passes limit w) number arguments f below stack = Ends (Limited limit not_told w)
   on_found_paid (Counts w) number arguments f below stack = on_found (does limits.ground.host number arguments w.store) f below w stack
 
   abbrev pub on_access : Access → Frame → List Frame → World → List Word → Next
@@ -345,7 +347,7 @@ module _ (codes : Codes) (limits : Limits) where
   on_put (Some given) f below w stack = on_done (acts_in w given) f below w stack
 
   abbrev pub on_put_paid : Counted → ℕ → List Value → Frame → List Frame → List Word → Next
-  on_put_paid (Passes limit w) number arguments f below stack = Ends (Limited limit w)
+  on_put_paid (Passes limit w) number arguments f below stack = Ends (Limited limit not_told w)
   on_put_paid (Counts w) number arguments f below stack = on_put (does limits.ground.host number arguments w.store) f below w stack
 
   abbrev pub on_write : Access → Frame → List Frame → World → List Word → Next
@@ -463,7 +465,7 @@ module _ (codes : Codes) (limits : Limits) where
   on_act (Some given) t f below w stack = on_outcome (acts_in w given) (given_as t.result) f below w stack
 
   abbrev pub on_paid : Counted → ℕ → List Value → MemberType → Frame → List Frame → List Word → Next
-  on_paid (Passes limit w) number arguments t f below stack = Ends (Limited limit w)
+  on_paid (Passes limit w) number arguments t f below stack = Ends (Limited limit not_told w)
   on_paid (Counts w) number arguments t f below stack = on_act (does limits.ground.host number arguments w.store) t f below w stack
 
   -- a receiver or an argument of another class throws before the call is paid
@@ -478,11 +480,11 @@ module _ (codes : Codes) (limits : Limits) where
   on_received (Receives arguments) number t f below w stack = on_tested (suits_member w.store.objects t arguments) number arguments t f below w stack
   on_received Reads number t f below w stack = on_act (does limits.ground.host number [] w.store) t f below w stack
 
-  -- a call of the member of this number, if there is one
-  abbrev pub member_act : Option ℕ → Frame → List Frame → World → Next
-  member_act None f below w = Stuck
-  member_act (Some number) f below w =
-      on_words (take_words (count_of (member_at number)) f.stack []) (λ words stack. on_received (received (member_at number) words) number (member_at number) f below w stack)
+  -- a call of the member of a list with this number, if there is one
+  abbrev pub member_act : AllowList → Option ℕ → Frame → List Frame → World → Next
+  member_act allow None f below w = Stuck
+  member_act allow (Some number) f below w =
+      on_words (take_words (count_of (member_in allow number)) f.stack []) (λ words stack. on_received (received (member_in allow number) words) number (member_in allow number) f below w stack)
 
   -- The rows that are built: all but those that make function values.
   abbrev pub act : Instruction → Frame → List Frame → World → Next
@@ -501,9 +503,9 @@ module _ (codes : Codes) (limits : Limits) where
   act (i.Sized s of n) f below w = on_type (type_of_full of) (λ of. sized_act s of n f below w)
   act (i.DefCall name n) f below w = method_act name n f below w
   act (i.Cast to way) f below w = on_type (type_of_full to) (λ to. cast_act to (is_written way) f below w)
-  act (i.Invoke method) f below w = member_act (method_of (allowed_in limits f.text) method) f below w
-  act (i.New constructor) f below w = member_act (constructor_of (allowed_in limits f.text) constructor) f below w
-  act (i.Field field) f below w = member_act (field_of (allowed_in limits f.text) field) f below w
+  act (i.Invoke method) f below w = member_act (allowed_in limits f.text) (method_of (allowed_in limits f.text) method) f below w
+  act (i.New constructor) f below w = member_act (allowed_in limits f.text) (constructor_of (allowed_in limits f.text) constructor) f below w
+  act (i.Field field) f below w = member_act (allowed_in limits f.text) (field_of (allowed_in limits f.text) field) f below w
   act (i.Lambda interface function n) f below w = Stuck
   act (i.Ref interface of name) f below w = Stuck
   act (i.NewRef interface of) f below w = Stuck

@@ -7,9 +7,9 @@ use Rattle.command_parts.specs.declared.status.Status.TheVariants as s
 use Rattle.command_parts.specs.declared.stop.Stop.{Stop}
 use Rattle.command_parts.specs.declared.stop.Stop.TheVariants as stop
 use Rattle.command_parts.specs.Told.{Told, silent, uncounted}
+use Rattle.command_parts.specs.Writing.{Writes}
 use Rattle.command_parts.specs.Stops.{stop_told}
 use Rattle.command_parts.specs.Ending.{EndsSo}
-use Rattle.command_parts.specs.Delivers.{Delivers}
 use Rattle.command_parts.specs.DeliversOver.{IsInput, DeliversOver}
 
 pub nothing : (old : Option (List ℕ)) → Appends old old []
@@ -20,63 +20,104 @@ nothing (Some xs) = sym (append-nil xs)
 pub no_front : (old : Option (List ℕ)) (bytes : List ℕ) → AppendsFront old old bytes
 no_front old bytes = record { front = []; behind = bytes; parts = refl; appended = nothing old }
 
--- the same is delivered under what tells the same
-pub delivers_same : (tells others : Told → Type 0) → ((told : Told) → tells told → others told) → ((told : Told) → others told → tells told)
-    → (status : Status) (old new : Option (List ℕ)) → Delivers tells status old new → Delivers others status old new
-delivers_same tells others to from s.Done old new h = (h.0, to h.0 h.1, h.2, h.3)
-delivers_same tells others to from s.SomeErrors old new h = (h.0, to h.0 h.1, h.2, h.3)
-delivers_same tells others to from s.Refused old new h = (h.0, to h.0 h.1, h.2, h.3)
-delivers_same tells others to from s.Usage old new h = (h.0, to h.0 h.1, h.2, h.3)
-delivers_same tells others to from s.FileAbsent old new h = (h.0, to h.0 h.1, h.2, h.3)
-delivers_same tells others to from s.FileLong old new h = (h.0, to h.0 h.1, h.2, h.3)
-delivers_same tells others to from s.WriteFault old new h = (h.0, to h.0 h.1, h.2)
-delivers_same tells others to from s.NoMemory old new h = λ told k. h told (from told k)
-delivers_same tells others to from s.FileFault old new h = h
-delivers_same tells others to from s.ReadFault old new h = h
-delivers_same tells others to from s.InputLong old new h = h
-
 -- files may tell no content; then there is some content that shows an answer
 pub some_content : (known : Option (List ℕ → Option (List ℕ))) → (content : List ℕ → Option (List ℕ)) × IfSome known (λ k. k ≡ content)
 some_content None = ((λ _. None), tt)
 some_content (Some k) = (k, refl)
+
+-- what is told where something is, by what follows
+pub if_told : (found : Option Told) (P Q : Told → Type 0) → ((told : Told) → P told → Q told) → IfSome found P → IfSome found Q
+if_told None P Q to h = tt
+if_told (Some told) P Q to h = to told h
 
 -- a source may tell no bytes; then any are its
 pub some_input : (left : Option (List ℕ)) → (input : List ℕ) × IsInput left input
 some_input None = ([], tt)
 some_input (Some known) = (known, refl)
 
--- what is delivered where the input does not matter
-pub delivers_over : (tells : Told → Type 0) (over taken : List ℕ → Told → Type 0) (past : List ℕ → Type 0) → ((input : List ℕ) (told : Told) → tells told → over input told)
-    → ((input : List ℕ) (told : Told) → over input told → tells told) → (status : Status) (left left' old new : Option (List ℕ)) → Delivers tells status old new
-    → DeliversOver over taken past status left left' old new
-delivers_over tells over taken past to from s.Done left left' old new h = let i = some_input left in (i.0, i.1, h.0, to i.0 h.0 h.1, h.2, h.3)
-delivers_over tells over taken past to from s.SomeErrors left left' old new h = let i = some_input left in (i.0, i.1, h.0, to i.0 h.0 h.1, h.2, h.3)
-delivers_over tells over taken past to from s.Refused left left' old new h = let i = some_input left in (i.0, i.1, h.0, to i.0 h.0 h.1, h.2, h.3)
-delivers_over tells over taken past to from s.Usage left left' old new h = let i = some_input left in (i.0, i.1, h.0, to i.0 h.0 h.1, h.2, h.3)
-delivers_over tells over taken past to from s.FileAbsent left left' old new h = let i = some_input left in (i.0, i.1, h.0, to i.0 h.0 h.1, h.2, h.3)
-delivers_over tells over taken past to from s.FileLong left left' old new h = let i = some_input left in (i.0, i.1, h.0, to i.0 h.0 h.1, h.2, h.3)
-delivers_over tells over taken past to from s.WriteFault left left' old new h = let i = some_input left in (i.0, i.1, h.0, to i.0 h.0 h.1, h.2)
-delivers_over tells over taken past to from s.NoMemory left left' old new h = let i = some_input left in (i.0, i.1, λ told k. h told (from i.0 told k))
-delivers_over tells over taken past to from s.FileFault left left' old new h = h
-delivers_over tells over taken past to from s.ReadFault left left' old new h = absurd h
-delivers_over tells over taken past to from s.InputLong left left' old new h = absurd h
+-- the same is delivered under what tells the same
+module _ (tells others taken : List ℕ → Told → Type 0) (past : List ℕ → Type 0) (to : (input : List ℕ) (told : Told) → tells input told → others input told)
+    (from : (input : List ℕ) (told : Told) → others input told → tells input told) (left left' old new : Option (List ℕ)) where
+  pub delivers_same : (status : Status) → DeliversOver tells taken past status left left' old new → DeliversOver others taken past status left left' old new
+  delivers_same s.Done (input, is, told, h, at, appended) = (input, is, told, to input told h, at, appended)
+  delivers_same s.SomeErrors (input, is, told, h, at, appended) = (input, is, told, to input told h, at, appended)
+  delivers_same s.Refused (input, is, told, h, at, appended) = (input, is, told, to input told h, at, appended)
+  delivers_same s.Usage (input, is, told, h, at, appended) = (input, is, told, to input told h, at, appended)
+  delivers_same s.FileAbsent (input, is, told, h, at, appended) = (input, is, told, to input told h, at, appended)
+  delivers_same s.FileLong (input, is, told, h, at, appended) = (input, is, told, to input told h, at, appended)
+  delivers_same s.InputLong ((input, is, told, h, at, appended), more) = ((input, is, told, to input told h, at, appended), more)
+  delivers_same s.ReadFault h = h
+  delivers_same s.WriteFault (input, is, told, h, front) = (input, is, told, to input told h, front)
+  delivers_same s.NoMemory (input, is, h) = (input, is, λ told k. h told (from input told k))
+  delivers_same s.FileFault h = h
 
--- one thing is told, and the run ends by a stop that tells it
-pub stop_delivers : (tells : Told → Type 0) (end : Stop) (status : Status) (old new : Option (List ℕ)) → ((a b : Told) → tells a → tells b → a ≡ b)
-    → IfSome (stop_told end) tells → EndsSo end status old new → Delivers tells status old new
-stop_delivers tells (stop.Refused line) status old new once is (inl (ends, appended)) =
-    subst (λ (t : Status). Delivers tells t old new) (sym ends) (uncounted s.Refused (string_bytes line), is, refl, appended)
-stop_delivers tells (stop.Refused line) status old new once is (inr (inl ends, front)) =
-    subst (λ (t : Status). Delivers tells t old new) (sym ends) (uncounted s.Refused (string_bytes line), is, front)
-stop_delivers tells (stop.Refused line) status old new once is (inr (inr ends, front)) =
-    subst (λ (t : Status). Delivers tells t old new) (sym ends)
-    (λ told k. subst (λ (t : Told). AppendsFront old new t.bytes) (once (uncounted s.Refused (string_bytes line)) told is k) front)
-stop_delivers tells stop.FileAbsent status old new once is (ends, same) =
-    subst (λ (t : Status). Delivers tells t old new) (sym ends)
-    (silent s.FileAbsent, is, refl, subst (λ (n : Option (List ℕ)). Appends old n []) (sym same) (nothing old))
-stop_delivers tells stop.FileLong status old new once is (ends, same) =
-    subst (λ (t : Status). Delivers tells t old new) (sym ends) (silent s.FileLong, is, refl, subst (λ (n : Option (List ℕ)). Appends old n []) (sym same) (nothing old))
-stop_delivers tells stop.FileFault status old new once is (ends, same) =
-    subst (λ (t : Status). Delivers tells t old new) (sym ends) (subst (λ (n : Option (List ℕ)). Appends old n []) (sym same) (nothing old))
-stop_delivers tells stop.NoMemory status old new once is (ends, same) =
-    subst (λ (t : Status). Delivers tells t old new) (sym ends) (λ told k. subst (λ (n : Option (List ℕ)). AppendsFront old n told.bytes) (sym same) (no_front old told.bytes))
+-- the statuses of what is told and written
+abbrev pub IsAnswered : Status → Type 0
+IsAnswered s.Done = Unit {0}
+IsAnswered s.SomeErrors = Unit {0}
+IsAnswered s.Refused = Unit {0}
+IsAnswered other = ⊥
+
+-- One thing is told, whatever the input is.
+module _ (tells taken : List ℕ → Told → Type 0) (past : List ℕ → Type 0) (told : Told) (is : (input : List ℕ) → tells input told)
+    (left left' old new : Option (List ℕ)) where
+  abbrev pub Over : Status → Type 0
+  Over status = DeliversOver tells taken past status left left' old new
+
+  -- it was written whole
+  pub whole_delivers : (status : Status) → IsAnswered status → told.status ≡ status → Appends old new told.bytes → Over status
+  whole_delivers s.Done can at appended = let i = some_input left in (i.0, i.1, told, is i.0, at, appended)
+  whole_delivers s.SomeErrors can at appended = let i = some_input left in (i.0, i.1, told, is i.0, at, appended)
+  whole_delivers s.Refused can at appended = let i = some_input left in (i.0, i.1, told, is i.0, at, appended)
+  whole_delivers s.ReadFault can at appended = absurd can
+  whole_delivers s.WriteFault can at appended = absurd can
+  whole_delivers s.NoMemory can at appended = absurd can
+  whole_delivers s.InputLong can at appended = absurd can
+  whole_delivers s.Usage can at appended = absurd can
+  whole_delivers s.FileFault can at appended = absurd can
+  whole_delivers s.FileAbsent can at appended = absurd can
+  whole_delivers s.FileLong can at appended = absurd can
+
+  -- a front of it was
+  pub failed_delivers : AppendsFront old new told.bytes → Over s.WriteFault
+  failed_delivers front = let i = some_input left in (i.0, i.1, told, is i.0, front)
+
+  pub cut_delivers : ((input : List ℕ) (other : Told) → tells input other → told ≡ other) → AppendsFront old new told.bytes → Over s.NoMemory
+  cut_delivers once front =
+      let i = some_input left in (i.0, i.1, λ other k. subst (λ (t : Told). AppendsFront old new t.bytes) (once i.0 other k) front)
+
+  pub writes_deliver : ((input : List ℕ) (other : Told) → tells input other → told ≡ other) → (status : Status) → IsAnswered told.status → Writes told status old new → Over status
+  writes_deliver once status can (inl (at, appended)) = subst Over (sym at) (whole_delivers told.status can refl appended)
+  writes_deliver once status can (inr (inl fault, front)) = subst Over (sym fault) (failed_delivers front)
+  writes_deliver once status can (inr (inr memory, front)) = subst Over (sym memory) (cut_delivers once front)
+
+-- nothing is written where memory runs out before there is anything to tell
+pub none_delivers : (tells taken : List ℕ → Told → Type 0) (past : List ℕ → Type 0) (left left' old : Option (List ℕ)) → DeliversOver tells taken past s.NoMemory left left' old old
+none_delivers tells taken past left left' old = let i = some_input left in (i.0, i.1, λ told h. no_front old told.bytes)
+
+-- nothing is told of a file that is not there, or too long
+pub absent_delivers : (tells taken : List ℕ → Told → Type 0) (past : List ℕ → Type 0) (left left' old : Option (List ℕ)) → ((input : List ℕ) → tells input (silent s.FileAbsent))
+    → DeliversOver tells taken past s.FileAbsent left left' old old
+absent_delivers tells taken past left left' old is = let i = some_input left in (i.0, i.1, silent s.FileAbsent, is i.0, refl, nothing old)
+
+pub long_delivers : (tells taken : List ℕ → Told → Type 0) (past : List ℕ → Type 0) (left left' old : Option (List ℕ)) → ((input : List ℕ) → tells input (silent s.FileLong))
+    → DeliversOver tells taken past s.FileLong left left' old old
+long_delivers tells taken past left left' old is = let i = some_input left in (i.0, i.1, silent s.FileLong, is i.0, refl, nothing old)
+
+-- a run that ends by a stop, which tells the one thing that is told
+module _ (tells taken : List ℕ → Told → Type 0) (past : List ℕ → Type 0) (once : (input : List ℕ) (a b : Told) → tells input a → tells input b → a ≡ b) (left left' old new : Option (List ℕ)) where
+  abbrev pub Stops : Status → Option (List ℕ) → Type 0
+  Stops status now = DeliversOver tells taken past status left left' old now
+
+  pub stop_delivers : (end : Stop) (status : Status) → IfSome (stop_told end) (λ told. (input : List ℕ) → tells input told) → EndsSo end status old new
+      → DeliversOver tells taken past status left left' old new
+  stop_delivers (stop.Refused line) status is ends =
+      let told = uncounted s.Refused (string_bytes line) in
+      writes_deliver tells taken past told is left left' old new (λ input other k. once input told other (is input) k) status tt ends
+  stop_delivers stop.FileAbsent status is (at, same) =
+      subst (λ (t : Status). Stops t new) (sym at) (subst (Stops s.FileAbsent) (sym same) (absent_delivers tells taken past left left' old is))
+  stop_delivers stop.FileLong status is (at, same) =
+      subst (λ (t : Status). Stops t new) (sym at) (subst (Stops s.FileLong) (sym same) (long_delivers tells taken past left left' old is))
+  stop_delivers stop.FileFault status is (at, same) = subst (λ (t : Status). Stops t new) (sym at) (subst (Stops s.FileFault) (sym same) (nothing old))
+  stop_delivers stop.NoMemory status is (at, same) =
+      subst (λ (t : Status). Stops t new) (sym at) (subst (Stops s.NoMemory) (sym same) (none_delivers tells taken past left left' old))

@@ -1,6 +1,6 @@
 -- What a run that may read the input leaves in its sink, by the status with which it ends. What is told depends on the bytes of the
 -- input; what is told of bytes that were taken before a fault depends on them, and so does how many are taken where there are too many.
-use Rattle.std.specs.Prelude.{◌≡◌, ℕ, List, [], Option, IfSome}
+use Rattle.std.specs.Prelude.{◌≡◌, ℕ, List, [], Option, None, IfSome}
 use Rattle.std.specs.Io.KnownBytes.{Consumes, Appends}
 use Rattle.outer_io.specs.Front.{AppendsFront}
 use Rattle.command_parts.specs.declared.status.Status.{Status}
@@ -33,3 +33,7 @@ DeliversOver tells taken past s.WriteFault left left' old new = (input : List �
 DeliversOver tells taken past s.NoMemory left left' old new = (input : List ℕ) × IsInput left input × ((told : Told) → tells input told → AppendsFront old new told.bytes)
 -- the files are read before anything is written
 DeliversOver tells taken past s.FileFault left left' old new = Appends old new []
+
+-- what a run leaves that reads no input, so that what is told depends on none
+abbrev pub DeliversUnread : (Told → Type 0) → Status → Option (List ℕ) → Option (List ℕ) → Type 0
+DeliversUnread tells status old new = DeliversOver (λ input told. tells told) (λ front told. ⊥) (λ front. ⊥) status None None old new

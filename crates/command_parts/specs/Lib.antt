@@ -5,7 +5,7 @@ pub mod Asking
 pub mod Stops
 pub mod Ending
 pub mod Writing
-pub mod Delivers
 pub mod DeliversOver
 pub mod Before
+pub mod Ends
 pub mod Process

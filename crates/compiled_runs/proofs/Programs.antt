@@ -4,13 +4,15 @@ use Rattle.std.specs.Prelude.{slice_get}
 use Rattle.std.proofs.lemmas.Option.{slice_get_within}
 use Rattle.pl_types.specs.declared.ty.Ty.{Ty}
 use Rattle.object_values.specs.declared.object.Owner.{Owner}
-use Rattle.object_values.specs.declared.object.Owner.TheVariants.{Script}
+use Rattle.object_values.specs.declared.object.Owner.TheVariants.{Script, Prelude}
 use Rattle.pl_code.specs.declared.kinds.Plain.TheVariants as plain
 use Rattle.pl_code.specs.declared.code.FunCode.{FunCode}
 use Rattle.pl_code.specs.declared.code.Instruction.{Instruction}
 use Rattle.pl_code.specs.declared.code.Instruction.TheVariants as i
 use Rattle.allowlist.specs.Allow.{AllowList}
 use Rattle.member_names.specs.Names.{TextsName}
+use Rattle.run_state.specs.World.{Limits}
+use Rattle.typed_tree.specs.declared.program.Program as typed
 use Rattle.compiled_shapes.specs.Tree.{Fun, Program}
 use Rattle.compiled_shapes.specs.Programs.{program_of}
 use Rattle.compiled_shapes.specs.Falls.{all_fall}
@@ -18,10 +20,14 @@ use Rattle.compiled_shapes.specs.Representation.{representation_of}
 use Rattle.compiled_shapes.specs.Parts.{default_code}
 use Rattle.compiled_shapes.specs.Stands.{scope_of, no_jumps, end_all, end_stmts, EndAt, end_end, FunAt, Compiled}
 use Rattle.compiled_shapes.specs.Agreeing as agreeing
-use Rattle.compiled_shapes.specs.Agreeing.{Known, known, FunAgrees, WellFormed}
+use Rattle.compiled_shapes.specs.Agreeing.{Known, known, known_in, AreWellFormed, FunAgrees, WellFormed}
+use Rattle.compiled_shapes.specs.Correct.{IsCodeOf, programs_of}
+use Rattle.compiled_shapes.specs.Reached.{Reached}
 use Rattle.compiled_shapes.specs.Laws.{CodeIsWellShaped}
 use Rattle.verifier_soundness.specs.Rows.{has_row}
-use Rattle.verifier_soundness.specs.Fits.{main_params}
+use Rattle.verifier_soundness.specs.Fits.{main_params, AreWellShaped}
+use Rattle.verifier_soundness.specs.Laws.{AllHaveRows}
+use Rattle.verifier_soundness.specs.Machine.{Codes}
 use Rattle.verifier_soundness.proofs.Runs.{run_ends}
 use Rattle.compiled_runs.specs.Laws.{CodeHasRows, ProgramsRun}
 use Rattle.compiled_runs.proofs.Parts.{default_rows}
@@ -71,9 +77,24 @@ first_of_code : (code : List FunCode) → 0 < length code → (f : FunCode) × (
 first_of_code [] h = absurd (omega arith)
 first_of_code (f ∷ fs) h = (f, refl, refl)
 
+some_function : (p : typed.Program) → 0 < length (program_of p)
+some_function p = omega arith
+
+-- code of either text of a run is well shaped under the list of its text, and has rows
+shapes_of : CodeIsWellShaped → (p : typed.Program) (prelude : Program) (codes : Codes) (limits : Limits) → AreWellFormed (programs_of p prelude) limits → Reached (program_of p) → Reached prelude → 0 < length prelude
+    → IsCodeOf p codes.script → Compiled Prelude prelude codes.prelude → AreWellShaped codes limits
+shapes_of code_is_well_shaped p prelude codes limits formed reached others some made beside Script =
+    code_is_well_shaped Script (known_in (programs_of p prelude) limits Script) codes.script (some_function p) formed.script reached made
+shapes_of code_is_well_shaped p prelude codes limits formed reached others some made beside Prelude =
+    code_is_well_shaped Prelude (known_in (programs_of p prelude) limits Prelude) codes.prelude some formed.prelude others beside
+
+rows_of : TextsName → (p : typed.Program) (prelude : Program) (codes : Codes) (limits : Limits) → AreWellFormed (programs_of p prelude) limits → IsCodeOf p codes.script → Compiled Prelude prelude codes.prelude
+    → AllHaveRows codes limits
+rows_of texts p prelude codes limits formed made beside Script = code_has_rows texts Script (known_in (programs_of p prelude) limits Script) codes.script formed.script made
+rows_of texts p prelude codes limits formed made beside Prelude = code_has_rows texts Prelude (known_in (programs_of p prelude) limits Prelude) codes.prelude formed.prelude beside
+
 pub programs_run : TextsName → CodeIsWellShaped → ProgramsRun
-programs_run texts code_is_well_shaped allow p code prelude formed reached made limits under words w params allowed =
-    let funs = known allow (program_of p) in
-    let well = code_is_well_shaped Script funs code (omega arith) formed reached made in
-    let first = first_of_code code well.some in
-    run_ends allow code prelude limits well under (code_has_rows texts Script funs code formed made) first.0 words w first.1 (params ∙ first.2) allowed
+programs_run texts code_is_well_shaped p prelude codes limits formed reached others some made beside words w params allowed =
+    let well = shapes_of code_is_well_shaped p prelude codes limits formed reached others some made beside in
+    let first = first_of_code codes.script (well Script).some in
+    run_ends codes limits well (rows_of texts p prelude codes limits formed made beside) first.0 words w first.1 (params ∙ first.2) allowed

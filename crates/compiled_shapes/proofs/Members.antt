@@ -169,7 +169,7 @@ module _ (allow : AllowList) (functions : List FunCode) (f : FunCode) where
     target = refl;
     member = ap (λ o. not (is_some o)) names;
     leaves =
-        ap (λ o. left_in (option_map invokes o) (push_types ofs s)) names
+        ap (λ o. left_in (option_map (invokes allow) o) (push_types ofs s)) names
         ∙ ap (λ (m : MemberType). left_by (Exchanges (member_takes m) (one (kind_of_type m.result))) (push_types ofs s)) at
         ∙ ap (left_by (Exchanges (member_takes member) (one (kind_of_type member.result)))) takes
         ∙ ap (option_map (λ left. one (kind_of_type member.result) ++ left)) (taken_own (member_takes member) s)
@@ -184,7 +184,7 @@ module _ (allow : AllowList) (functions : List FunCode) (f : FunCode) where
     target = refl;
     member = ap (λ o. not (is_some o)) names;
     leaves =
-        ap (λ o. left_in (option_map makes o) (push_types member.params s)) names
+        ap (λ o. left_in (option_map (makes allow) o) (push_types member.params s)) names
         ∙ ap (λ (m : MemberType). left_by (Exchanges (argument_kinds m.params) (one R)) (push_types member.params s)) at
         ∙ ap (left_by (Exchanges (argument_kinds member.params) (one R))) (arguments_lie member.params s h)
         ∙ ap (option_map (λ left. one R ++ left)) (taken_own (argument_kinds member.params) s);
@@ -198,7 +198,7 @@ module _ (allow : AllowList) (functions : List FunCode) (f : FunCode) where
     target = refl;
     member = ap (λ o. not (is_some o)) names;
     leaves =
-        ap (λ o. left_in (option_map reads o) s) names
+        ap (λ o. left_in (option_map (reads allow) o) s) names
         ∙ ap (λ (m : MemberType). left_by (Exchanges [] (one (kind_of_type m.result))) s) at
         ∙ ap (λ k. Some (k ∷ s)) (same_kind member.result);
   }

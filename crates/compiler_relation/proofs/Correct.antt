@@ -64,11 +64,11 @@ module _ (funs : Programs) (codes : Codes) (limits : Limits) where
       (subst (λ r. Leads codes limits (Ends (Result (low (representation_of c.result) value) s.world)) r) same (ended codes limits _)))
   finishes c g falling continuing q none ends from (Done Broke s e) r d is = cc
   finishes c g falling continuing q none ends from (Done Continued s e) r d is = cc
-  finishes c g falling continuing q none ends from (Thrown id s e) r d is =
-      let same : Uncaught id s.world ≡ r = cc in
-      d r (λ l f. subst (λ b. Leads codes limits (unwind codes b id s.world) r) (sym none) (subst (λ r. Leads codes limits (Ends (Uncaught id s.world)) r) same (ended codes limits _)))
-  finishes c g falling continuing q none ends from (Over limit w) r d is =
-      let same : Limited limit w ≡ r = cc in subst (λ r. Leads codes limits from r) same d
+  finishes c g falling continuing q none ends from (Thrown id arose s e) r d is =
+      let same : Uncaught id arose s.world ≡ r = cc in
+      d r (λ l f. subst (λ b. Leads codes limits (unwind codes b id arose s.world) r) (sym none) (subst (λ r. Leads codes limits (Ends (Uncaught id arose s.world)) r) same (ended codes limits _)))
+  finishes c g falling continuing q none ends from (Over limit arose w) r d is =
+      let same : Limited limit arose w ≡ r = cc in subst (λ r. Leads codes limits from r) same d
   finishes c g falling continuing q none ends from More r d is = cc
 
 pub ends_alike : ReadsBack → TextsName → (funs : Programs) (codes : Codes) → AreCompiled funs codes → (limits : Limits) (main : Fun) → slice_get funs.script 0 ≡ Some main

@@ -7,7 +7,7 @@ use Rattle.object_values.specs.declared.value.Value.TheVariants as v
 use Rattle.object_values.specs.declared.object.Owner.{Owner}
 use Rattle.pl_code.specs.declared.code.FunCode.{FunCode}
 use Rattle.pl_code.specs.declared.code.Instruction.{Instruction}
-use Rattle.run_state.specs.World.{Limits, End, Limited, has_loop_limit}
+use Rattle.run_state.specs.World.{Limits, Arose, End, Limited, has_loop_limit}
 use Rattle.source_meaning.specs.Meaning.{State, Env, Place, Out, Done, Thrown, Over, More, bind, leave, choose}
 use Rattle.code_meaning.specs.declared.word.Word.{Word}
 use Rattle.code_meaning.specs.Machine.{Codes, code_in, Frame, Config, Next, Goes, Ends, Handlers, traps_of, lands, unwind, act, acts, lines_of, step, after, depth_of, on_top, on_int, unless_zero, pushed}
@@ -74,23 +74,23 @@ module _ (codes : Codes) (limits : Limits) where
       let back = went _ r d in
       record { steps = back.steps; reaches = ap (after codes limits back.steps) (sym same) ∙ back.reaches }
 
-  -- an exception under these handlers
-  abbrev pub thrown : Ctx codes → Handlers → ℕ → State → List Word → Next
-  thrown c h id s l = lands h c.text c.fun l s.turns c.due c.below id s.world (unwind codes c.below id s.world)
+  -- an exception under these handlers, and where it arose
+  abbrev pub thrown : Ctx codes → Handlers → ℕ → Arose → State → List Word → Next
+  thrown c h id arose s l = lands h c.text c.fun l s.turns c.due c.below id arose s.world (unwind codes c.below id arose s.world)
 
-  pub throws : (c : Ctx codes) (h : Handlers) (line : ℕ) (i : Instruction) (l st : List Word) (id : ℕ) (s : State) (r : End (Option Word)) → At c.body h line i
-      → Leads (thrown c h id s l) r → Leads (unwind codes (frame c line l st s ∷ c.below) id s.world) r
-  throws c h line i l st id s r a d =
+  pub throws : (c : Ctx codes) (h : Handlers) (line : ℕ) (i : Instruction) (l st : List Word) (id : ℕ) (arose : Arose) (s : State) (r : End (Option Word)) → At c.body h line i
+      → Leads (thrown c h id arose s l) r → Leads (unwind codes (frame c line l st s ∷ c.below) id arose s.world) r
+  throws c h line i l st id arose s r a d =
       let trap : traps_of (slice_get (code_in codes c.text) c.fun) line ≡ h = ap (λ o. traps_of o line) c.is ∙ a.traps in
-      let same : unwind codes (frame c line l st s ∷ c.below) id s.world ≡ thrown c h id s l =
-      ap (λ o. lands o c.text c.fun l s.turns c.due c.below id s.world (unwind codes c.below id s.world)) trap in
+      let same : unwind codes (frame c line l st s ∷ c.below) id arose s.world ≡ thrown c h id arose s l =
+      ap (λ o. lands o c.text c.fun l s.turns c.due c.below id arose s.world (unwind codes c.below id arose s.world)) trap in
       record { steps = d.steps; reaches = ap (after codes limits d.steps) same ∙ d.reaches }
 
   -- what happened, and where that leads
   abbrev pub Follows : {A : Type 0} → Ctx codes → Handlers → Scope → (A → State → List Word → Next) → (A → Type 0) → Next → Out A → Type 0
   Follows c h g land good n (Done a s e) = (r : End (Option Word)) → ((l : List Word) → Fits c.body g e l → good a → Leads (land a s l) r) → Leads n r
-  Follows c h g land good n (Thrown id s e) = (r : End (Option Word)) → ((l : List Word) → Fits c.body g e l → Leads (thrown c h id s l) r) → Leads n r
-  Follows c h g land good n (Over limit w) = Leads n (Limited limit w)
+  Follows c h g land good n (Thrown id arose s e) = (r : End (Option Word)) → ((l : List Word) → Fits c.body g e l → Leads (thrown c h id arose s l) r) → Leads n r
+  Follows c h g land good n (Over limit arose w) = Leads n (Limited limit arose w)
   Follows c h g land good n More = Unit {0}
 
   pub record Sim {A : Type 0} (c : Ctx codes) (h : Handlers) (g : Scope) (land : A → State → List Word → Next) (good : A → Type 0) (n : Next) (o : Out A) : Type 0 where
@@ -100,8 +100,8 @@ module _ (codes : Codes) (limits : Limits) where
   pub through : {A : Type 0} (c : Ctx codes) (h : Handlers) (g : Scope) (land : A → State → List Word → Next) (good : A → Type 0) (n : Next) (P : List Word → Type 0) (n' : List Word → Next) (o : Out A)
       → ((r : End (Option Word)) → ((l : List Word) → P l → Leads (n' l) r) → Leads n r) → ((l : List Word) → P l → Follows c h g land good (n' l) o) → Follows c h g land good n o
   through c h g land good n P n' (Done a s e) f d = λ r k. f r (λ l p. d l p r k)
-  through c h g land good n P n' (Thrown id s e) f d = λ r k. f r (λ l p. d l p r k)
-  through c h g land good n P n' (Over limit w) f d = f _ d
+  through c h g land good n P n' (Thrown id arose s e) f d = λ r k. f r (λ l p. d l p r k)
+  through c h g land good n P n' (Over limit arose w) f d = f _ d
   through c h g land good n P n' More f d = tt
 
   pub via : {A : Type 0} {c : Ctx codes} {h : Handlers} {g : Scope} {land : A → State → List Word → Next} {good : A → Type 0} {n n' : Next} {o : Out A}
@@ -114,8 +114,8 @@ module _ (codes : Codes) (limits : Limits) where
       → Follows c h g land good n o → ((a : A) (s : State) (e : Env) (l : List Word) → Fits c.body g e l → good a → Sim c h g land' good' (land a s l) (k a s e)) → Follows c h g land' good' n (bind o k)
   bind_follows c h g land good land' good' n (Done a s e) k d f =
       through c h g land' good' n (λ l. Fits c.body g e l × good a) (land a s) (k a s e) (λ r q. d r (λ l x y. q l (x, y))) (λ l p. (f a s e l p.0 p.1).by)
-  bind_follows c h g land good land' good' n (Thrown id s e) k d f = d
-  bind_follows c h g land good land' good' n (Over limit w) k d f = d
+  bind_follows c h g land good land' good' n (Thrown id arose s e) k d f = d
+  bind_follows c h g land good land' good' n (Over limit arose w) k d f = d
   bind_follows c h g land good land' good' n More k d f = d
 
   pub and_then : {A B : Type 0} {c : Ctx codes} {h : Handlers} {g : Scope} {land : A → State → List Word → Next} {good : A → Type 0} {land' : B → State → List Word → Next} {good' : B → Type 0} {n : Next} {o : Out A} {k : A → State → Env → Out B}
@@ -141,8 +141,8 @@ module _ (codes : Codes) (limits : Limits) where
   moved : {A : Type 0} (c : Ctx codes) (h : Handlers) (g : Scope) (land land' : A → State → List Word → Next) (good good' : A → Type 0) (n : Next) (o : Out A)
       → ((a : A) (s : State) (l : List Word) (r : End (Option Word)) → good a → Leads (land' a s l) r → Leads (land a s l) r) → ((a : A) → good a → good' a) → Follows c h g land good n o → Follows c h g land' good' n o
   moved c h g land land' good good' n (Done a s e) f q d = λ r k. d r (λ l x y. f a s l r y (k l x (q a y)))
-  moved c h g land land' good good' n (Thrown id s e) f q d = d
-  moved c h g land land' good good' n (Over limit w) f q d = d
+  moved c h g land land' good good' n (Thrown id arose s e) f q d = d
+  moved c h g land land' good good' n (Over limit arose w) f q d = d
   moved c h g land land' good good' n More f q d = d
 
   pub lands_on : {A : Type 0} {c : Ctx codes} {h : Handlers} {g : Scope} {land land' : A → State → List Word → Next} {good good' : A → Type 0} {n : Next} {o : Out A}
@@ -154,8 +154,8 @@ module _ (codes : Codes) (limits : Limits) where
   left : {A : Type 0} (c : Ctx codes) (h : Handlers) (g : Scope) (y : Entry) (land : A → State → List Word → Next) (good : A → Type 0) (n : Next) (o : Out A)
       → Follows c h (y ∷ g) land good n o → Follows c h g land good n (leave o)
   left c h g y land good n (Done a s e) d = λ r k. d r (λ l f x. k l (leaves c.body g y e l f) x)
-  left c h g y land good n (Thrown id s e) d = λ r k. d r (λ l f. k l (leaves c.body g y e l f))
-  left c h g y land good n (Over limit w) d = d
+  left c h g y land good n (Thrown id arose s e) d = λ r k. d r (λ l f. k l (leaves c.body g y e l f))
+  left c h g y land good n (Over limit arose w) d = d
   left c h g y land good n More d = d
 
   pub leaving : {A : Type 0} {c : Ctx codes} {h : Handlers} {g : Scope} (y : Entry) {land : A → State → List Word → Next} {good : A → Type 0} {n : Next} {o : Out A}

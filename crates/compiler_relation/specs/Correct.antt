@@ -23,8 +23,8 @@ end_with of (Some value) w = Some (Result (low (representation_of of) value) w)
 
 abbrev pub end_of : Ty → Out Flow → Option (End (Option Word))
 end_of of (Done flow s e) = end_with of (returned of flow) s.world
-end_of of (Thrown id s e) = Some (Uncaught id s.world)
-end_of of (Over limit w) = Some (Limited limit w)
+end_of of (Thrown id place s e) = Some (Uncaught id place s.world)
+end_of of (Over limit place w) = Some (Limited limit place w)
 end_of of More = None
 
 abbrev pub source_in : Programs → Limits → ℕ → Fun → Option Env → World → Option (End (Option Word))

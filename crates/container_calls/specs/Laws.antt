@@ -1,5 +1,5 @@
 -- Laws over the definitions.
-use Rattle.std.specs.Prelude.{◌≡◌, ℕ, Bool, true, false, Some, List, ◌++◌, length, slice_get, option_map, is_some, nat_le, not, ◌==◌, ◌&&◌, ◌||◌, codes}
+use Rattle.std.specs.Prelude.{◌≡◌, ℕ, Bool, true, false, Some, List, [], ◌∷◌, length, slice_get, option_map, is_some, nat_le, not, ◌==◌, ◌&&◌, ◌||◌, codes}
 use Rattle.pl_types.specs.declared.classes.TheConstants.{ITERABLE, COLLECTIONS, SCRIPT_DOC_VALUES, STRING}
 use Rattle.allowlist.specs.declared.member.MemberType.{MemberType}
 use Rattle.allowlist.specs.Allow.{is_in_prelude}
@@ -9,8 +9,8 @@ use Rattle.object_values.specs.declared.object.Object.{Object}
 use Rattle.object_values.specs.declared.value.Value.{Value}
 use Rattle.object_heap.specs.Effects.{Effect, Gives, Throws, NoRoom}
 use Rattle.object_heap.specs.Fits.{kinds, Rules, Fits, AllFit, EffectFits}
-use Rattle.object_heap.specs.Objects.{Kind}
-use Rattle.object_heap.specs.Store.{Store}
+use Rattle.object_heap.specs.Objects.{Kind, may_become, renewed_by}
+use Rattle.object_heap.specs.Store.{Store, with_change}
 use Rattle.container_calls.specs.Members.{is_of_containers, does_container}
 
 -- what members keep: where the heap and the arguments fit a program or a code, the heap fits it afterwards
@@ -18,18 +18,29 @@ abbrev pub MembersKeepFit : Type 0
 MembersKeepFit = (rules : Rules) (store : Store) (number : ℕ) (arguments : List Value) → Fits rules store.objects → AllFit (length store.objects) arguments
     → EffectFits rules (does_container store number arguments)
 
--- the objects are still there, each of its kind, and there may be more
+-- Each of these kinds is still there, or one that it may become, and there may be more: a function value without an interface may have
+-- taken one in its place, once, and nothing else changes its kind.
+abbrev pub StayThere : List Kind → List Kind → Type 0
+StayThere [] after = Unit {0}
+StayThere (kind ∷ ks) [] = ⊥
+StayThere (kind ∷ ks) (now ∷ after) = (may_become kind now ≡ true) × StayThere ks after
+
+-- the objects are still there, each of its kind or, if it is a function value, with an interface that it has taken, and there may be more
 abbrev pub StillThere : List Object → List Object → Type 0
-StillThere before after = (more : List Kind) × (kinds after ≡ kinds before ++ more)
+StillThere before after = StayThere (kinds before) (kinds after)
 
 abbrev pub EffectLeaves : List Object → Effect → Type 0
 EffectLeaves objects (Gives value store) = StillThere objects store.objects
 EffectLeaves objects (Throws id store) = StillThere objects store.objects
 EffectLeaves objects NoRoom = Unit {0}
 
--- a member takes no object away and changes the kind of none: values that fit the heap go on fitting it
+-- a member takes no object away and changes no kind but as it may: values that fit the heap go on fitting it
 abbrev pub MembersLeaveObjects : Type 0
 MembersLeaveObjects = (number : ℕ) (arguments : List Value) (store : Store) → EffectLeaves store.objects (does_container store number arguments)
+
+-- and so does the renewal of an object, of whatever kind: a function value that takes an interface is there afterwards
+abbrev pub RenewalsLeaveObjects : Type 0
+RenewalsLeaveObjects = (objects : List Object) (id : ℕ) (object : Object) → StillThere objects (with_change objects id (renewed_by object))
 
 -- the classes of containers: Iterable, Collection, those of lists, sets, maps, entries and iterators, Collections, and ScriptDocValues
 abbrev pub is_container_class : ℕ → Bool

@@ -1,12 +1,13 @@
 //! What holds of all members of containers.
-ghost use Rattle.container_calls.specs.Laws.{BuiltAlone, BuiltOwners, BuiltStand, JoinIsNamed, MembersKeepFit, MembersLeaveObjects};
+ghost use Rattle.container_calls.specs.Laws.{BuiltAlone, BuiltOwners, BuiltStand, JoinIsNamed, MembersKeepFit, MembersLeaveObjects, RenewalsLeaveObjects};
 ghost use Rattle.container_calls.specs.Types.{MembersGiveTypes};
 
 /// Laws that callers may cite: where the heap and the arguments fit a program or a code, what comes of a member fits it too; and
-/// each object is there afterwards, of the same kind.
+/// each object is there afterwards, of its kind, or with an interface that it had not. So it is where an object is renewed.
 pub fn members_keep_fit()
     ensures fit { MembersKeepFit }
     ensures objects { MembersLeaveObjects }
+    ensures renewals { RenewalsLeaveObjects }
 {}
 
 /// Laws of the members that are built: of the classes that are built they are those that the prelude does not have, of no class is

@@ -6,7 +6,8 @@ use Rattle.pl_types.specs.declared.primitive.Primitive.TheVariants as prim
 use Rattle.pl_types.specs.declared.ty.Ty.{Ty, out-Ty}
 use Rattle.pl_types.specs.declared.ty.Ty.TheOpen.{Ty-F}
 use Rattle.pl_types.specs.Casts.{reaches, unboxed}
-use Rattle.allowlist.specs.Index.{member_at}
+use Rattle.allowlist.specs.Allow.{AllowList}
+use Rattle.allowlist.specs.Index.{member_in}
 use Rattle.arithmetic.specs.declared.operator.Num.{Num}
 use Rattle.object_values.specs.declared.object.Object.{Object}
 use Rattle.object_values.specs.declared.object.Object.TheVariants as o
@@ -284,12 +285,12 @@ casts_act (All values) old new number now a.Room h = absurd h
 casts_act (All values) old new number now a.NoMemory h = h
 casts_act (Ended told) old new number now answer h = h
 
-pub built_is : (store : Store) (number : ℕ) (values : List Value) → (length values == 0) ≡ false → coming.built_on store number values ≡ access.calls_with store number (access.casts_from store.objects (member_at number).params 1 values)
-built_is store number [] h = cc
-built_is store number (receiver ∷ arguments) h = refl
+pub built_is : (allow : AllowList) (store : Store) (number : ℕ) (values : List Value) → (length values == 0) ≡ false → coming.built_on allow store number values ≡ access.calls_with store number (access.casts_from store.objects (member_in allow number).params 1 values)
+built_is allow store number [] h = cc
+built_is allow store number (receiver ∷ arguments) h = refl
 
 -- a member's parameters, as they are found
-pub built_with : (store : Store) (number : ℕ) (values : List Value) (params : List Ty) → params ≡ (member_at number).params → (length values == 0) ≡ false
-    → access.calls_with store number (access.casts_from store.objects params 1 values) ≡ coming.built_on store number values
-built_with store number values params p h =
-    ap (λ (ofs : List Ty). access.calls_with store number (access.casts_from store.objects ofs 1 values)) p ∙ sym (built_is store number values h)
+pub built_with : (allow : AllowList) (store : Store) (number : ℕ) (values : List Value) (params : List Ty) → params ≡ (member_in allow number).params → (length values == 0) ≡ false
+    → access.calls_with store number (access.casts_from store.objects params 1 values) ≡ coming.built_on allow store number values
+built_with allow store number values params p h =
+    ap (λ (ofs : List Ty). access.calls_with store number (access.casts_from store.objects ofs 1 values)) p ∙ sym (built_is allow store number values h)

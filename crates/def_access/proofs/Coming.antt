@@ -1,5 +1,5 @@
 -- What is said of accesses, part by part.
-use Rattle.std.proofs.Common.{◌≡◌, ℕ, ℤ, Bool, true, false, Option, Some, None, List, [], ◌∷◌, length, Result, Ok, Err, refl, sym, ap, ◌∙◌, subst, if◌then◌else◌}
+use Rattle.std.proofs.Common.{◌≡◌, ℕ, ℤ, Bool, true, false, Option, Some, List, [], ◌∷◌, length, Result, Ok, Err, refl, sym, ap, ◌∙◌, subst, if◌then◌else◌}
 use Rattle.pl_types.specs.declared.ty.Ty.{Ty}
 use Rattle.allowlist.specs.Allow.{AllowList}
 use Rattle.object_values.specs.declared.value.Value.{Value}
@@ -114,15 +114,15 @@ property_stopped told old new number receiver answer p s h = absurd p
 
 -- ---- calls
 
-pub called_built : (store : Store) (name : List ℕ) (number : ℕ) (values : List Value) → is_built number ≡ true → coming.called_on store name values (Some (Member number)) ≡ coming.built_on store number values
-called_built store name number [] h = refl
-called_built store name number (receiver ∷ arguments) h = if_on store number (no_method store.objects receiver name (length arguments)) _ h
+pub called_built : (allow : AllowList) (store : Store) (name : List ℕ) (number : ℕ) (values : List Value) → is_built number ≡ true → coming.called_on allow store name values (Some (Member number)) ≡ coming.built_on allow store number values
+called_built allow store name number [] h = refl
+called_built allow store name number (receiver ∷ arguments) h = if_on store number (no_method store.objects receiver name (length arguments)) _ h
 
-pub called_unbuilt : (store : Store) (name : List ℕ) (number : ℕ) (values : List Value) → is_built number ≡ false → coming.called_on store name values (Some (Member number)) ≡ coming.called_on store name values None
-called_unbuilt store name number [] h = refl
-called_unbuilt store name number (receiver ∷ arguments) h = if_off store number (no_method store.objects receiver name (length arguments)) _ h
+pub called_unbuilt : (allow : AllowList) (store : Store) (name : List ℕ) (number : ℕ) (values : List Value) → is_built number ≡ false → coming.called_on allow store name values (Some (Member number)) ≡ coming.not_found_on store name values
+called_unbuilt allow store name number [] h = refl
+called_unbuilt allow store name number (receiver ∷ arguments) h = if_off store number (no_method store.objects receiver name (length arguments)) _ h
 
-pub method_is : (allow : AllowList) (store : Store) (name : List ℕ) (values : List Value) → coming.called_on store name values (coming.found_on allow store.objects name values) ≡ coming.method_called_on allow store name values
+pub method_is : (allow : AllowList) (store : Store) (name : List ℕ) (values : List Value) → coming.called_on allow store name values (coming.found_on allow store.objects name values) ≡ coming.method_called_on allow store name values
 unfolding access.method_called
 method_is allow store name [] = refl
 method_is allow store name (receiver ∷ arguments) = refl

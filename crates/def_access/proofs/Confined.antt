@@ -3,7 +3,7 @@ use Rattle.std.proofs.Common.{◌≡◌, ℕ, ℤ, Bool, true, false, Option, So
 use Rattle.std.specs.Prelude.{option_map}
 use Rattle.pl_types.specs.declared.ty.Ty.{Ty}
 use Rattle.allowlist.specs.Allow.{AllowList, flag}
-use Rattle.allowlist.specs.Index.{member_at}
+use Rattle.allowlist.specs.Index.{member_in}
 use Rattle.object_values.specs.declared.object.Object.{Object}
 use Rattle.object_values.specs.declared.value.Value.{Value}
 use Rattle.object_values.specs.declared.value.Value.TheVariants as v
@@ -132,12 +132,12 @@ property_written_confined allow store number receiver value [] h k = (h, k)
 property_written_confined allow store number receiver value (of ∷ ofs) h k = property_put_confined allow store number receiver (access.cast_to store.objects value of) h k
 
 put_named_confined : (allow : AllowList) (store : Store) (receiver : Value) (name : List ℕ) (value : Value) (found : Option NameAccess) → NameConfined allow found
-    → IsConfined allow (access.name_written_by store receiver name value found)
+    → IsConfined allow (access.name_written_by allow store receiver name value found)
 put_named_confined allow store receiver name value None h = tt
 put_named_confined allow store receiver name value (Some (by_name.Key number)) h = built_confined allow store number (no_accessor Write store.objects receiver name) _ (λ is. (h.allowed, is))
 put_named_confined allow store receiver name value (Some (by_name.Item number place)) h = built_confined allow store number (no_accessor Write store.objects receiver name) _ (λ is. item_put_confined allow store number receiver name value place h.allowed is)
 put_named_confined allow store receiver name value (Some (by_name.Accessor number)) h =
-    built_confined allow store number (no_accessor Write store.objects receiver name) _ (λ is. property_written_confined allow store number receiver value (member_at number).params h.allowed is)
+    built_confined allow store number (no_accessor Write store.objects receiver name) _ (λ is. property_written_confined allow store number receiver value (member_in allow number).params h.allowed is)
 put_named_confined allow store receiver name value (Some by_name.Length) h = tt
 
 object_name : (purpose : Purpose) (allow : AllowList) (name : List ℕ) (found : Option Object) → NameConfined allow (asked (in_object purpose allow name) None found)
@@ -164,11 +164,11 @@ calls_confined allow store number (All values) h k = (h, k)
 calls_confined allow store number (Ended told) h k = tt
 
 called_confined : (allow : AllowList) (store : Store) (receiver : Value) (name : List ℕ) (arguments : List Value) (found : Option Callee) → CalleeListed allow found
-    → IsConfined allow (access.called_by store receiver name arguments found)
+    → IsConfined allow (access.called_by allow store receiver name arguments found)
 called_confined allow store receiver name arguments None h = tt
 called_confined allow store receiver name arguments (Some (Iface number)) h = tt
 called_confined allow store receiver name arguments (Some (Member number)) h =
-    built_confined allow store number (no_method store.objects receiver name (length arguments)) _ (λ is. calls_confined allow store number (access.casts_from store.objects (member_at number).params 1 (receiver ∷ arguments)) h is)
+    built_confined allow store number (no_method store.objects receiver name (length arguments)) _ (λ is. calls_confined allow store number (access.casts_from store.objects (member_in allow number).params 1 (receiver ∷ arguments)) h is)
 
 either_listed : (allow : AllowList) (class : ℕ) (name : List ℕ) (arity : ℕ) (method found : Option ℕ) → instance_member allow class name arity ≡ found → CalleeListed allow (method_or method found)
 either_listed allow class name arity (Some method) found e = tt

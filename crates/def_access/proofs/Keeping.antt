@@ -4,7 +4,7 @@ use Rattle.pl_types.specs.declared.classes.TheConstants.{EXCEPTION, NULL_POINTER
 use Rattle.pl_types.specs.Classes.{class_is_below, lineage_of, parents_of, class_row, class_table}
 use Rattle.pl_types.specs.declared.ty.Ty.{Ty}
 use Rattle.allowlist.specs.Allow.{AllowList}
-use Rattle.allowlist.specs.Index.{member_at}
+use Rattle.allowlist.specs.Index.{member_in}
 use Rattle.object_values.specs.declared.object.Object.{Object}
 use Rattle.object_values.specs.declared.object.Object.TheVariants as o
 use Rattle.object_values.specs.declared.value.Value.{Value}
@@ -251,17 +251,17 @@ property_written_fits rules store number receiver value [] f h k = (h, (k, tt))
 property_written_fits rules store number receiver value (of ∷ ofs) f h k =
     property_put_fits rules store number receiver (access.cast_to store.objects value of) f h (cast_fits (length store.objects) store.objects value of false k)
 
-put_named_fits : (rules : Rules) (store : Store) (receiver : Value) (name : List ℕ) (value : Value) (found : Option NameAccess) → Fits rules store.objects → ValueFits (length store.objects) receiver
-    → ValueFits (length store.objects) value → AccessFits rules store (access.name_written_by store receiver name value found)
-put_named_fits rules store receiver name value None f h k = failure_fits rules store _ f (accessor_is Write store.objects receiver name)
-put_named_fits rules store receiver name value (Some (by_name.Key number)) f h k =
+put_named_fits : (rules : Rules) (allow : AllowList) (store : Store) (receiver : Value) (name : List ℕ) (value : Value) (found : Option NameAccess) → Fits rules store.objects → ValueFits (length store.objects) receiver
+    → ValueFits (length store.objects) value → AccessFits rules store (access.name_written_by allow store receiver name value found)
+put_named_fits rules allow store receiver name value None f h k = failure_fits rules store _ f (accessor_is Write store.objects receiver name)
+put_named_fits rules allow store receiver name value (Some (by_name.Key number)) f h k =
     built_fits rules store number (failures.no_accessor Write store.objects receiver name) _ f (accessor_is Write store.objects receiver name) (h, (tt, (k, tt)))
-put_named_fits rules store receiver name value (Some (by_name.Item number place)) f h k =
+put_named_fits rules allow store receiver name value (Some (by_name.Item number place)) f h k =
     built_fits rules store number (failures.no_accessor Write store.objects receiver name) _ f (accessor_is Write store.objects receiver name) (item_put_fits rules store number receiver name value place f h k)
-put_named_fits rules store receiver name value (Some (by_name.Accessor number)) f h k =
+put_named_fits rules allow store receiver name value (Some (by_name.Accessor number)) f h k =
     built_fits rules store number (failures.no_accessor Write store.objects receiver name) _ f (accessor_is Write store.objects receiver name)
-    (property_written_fits rules store number receiver value (member_at number).params f h k)
-put_named_fits rules store receiver name value (Some by_name.Length) f h k = failure_fits rules store _ f (accessor_is Write store.objects receiver name)
+    (property_written_fits rules store number receiver value (member_in allow number).params f h k)
+put_named_fits rules allow store receiver name value (Some by_name.Length) f h k = failure_fits rules store _ f (accessor_is Write store.objects receiver name)
 
 pub name_read_fits : (rules : Rules) (allow : AllowList) (store : Store) (receiver : Value) (name : List ℕ) → Fits rules store.objects → ValueFits (length store.objects) receiver
     → AccessFits rules store (access.name_read allow store receiver name)
@@ -271,7 +271,7 @@ name_read_fits rules allow store receiver name f h = named_fits rules store rece
 pub name_written_fits : (rules : Rules) (allow : AllowList) (store : Store) (receiver : Value) (name : List ℕ) (value : Value) → Fits rules store.objects → AllFit (length store.objects) (receiver ∷ value ∷ [])
     → AccessFits rules store (access.name_written allow store receiver name value)
 unfolding access.name_written
-name_written_fits rules allow store receiver name value f h = put_named_fits rules store receiver name value (name_access Write allow store.objects receiver name) f h.0 h.1.0
+name_written_fits rules allow store receiver name value f h = put_named_fits rules allow store receiver name value (name_access Write allow store.objects receiver name) f h.0 h.1.0
 
 -- calls
 
@@ -279,20 +279,20 @@ calls_fit : (rules : Rules) (store : Store) (number : ℕ) (casts : Casts) → F
 calls_fit rules store number (All values) f h = h
 calls_fit rules store number (Ended told) f h = settled rules store told f h
 
-called_fits : (rules : Rules) (store : Store) (receiver : Value) (name : List ℕ) (arguments : List Value) (found : Option Callee) → Fits rules store.objects → AllFit (length store.objects) (receiver ∷ arguments)
-    → AccessFits rules store (access.called_by store receiver name arguments found)
-called_fits rules store receiver name arguments None f h = failure_fits rules store _ f (method_is store.objects receiver name (length arguments))
-called_fits rules store receiver name arguments (Some (Iface number)) f h = failure_fits rules store _ f (method_is store.objects receiver name (length arguments))
-called_fits rules store receiver name arguments (Some (Member number)) f h =
+called_fits : (rules : Rules) (allow : AllowList) (store : Store) (receiver : Value) (name : List ℕ) (arguments : List Value) (found : Option Callee) → Fits rules store.objects → AllFit (length store.objects) (receiver ∷ arguments)
+    → AccessFits rules store (access.called_by allow store receiver name arguments found)
+called_fits rules allow store receiver name arguments None f h = failure_fits rules store _ f (method_is store.objects receiver name (length arguments))
+called_fits rules allow store receiver name arguments (Some (Iface number)) f h = failure_fits rules store _ f (method_is store.objects receiver name (length arguments))
+called_fits rules allow store receiver name arguments (Some (Member number)) f h =
     built_fits rules store number (failures.no_method store.objects receiver name (length arguments)) _ f (method_is store.objects receiver name (length arguments))
-    (calls_fit rules store number (access.casts_from store.objects (member_at number).params 1 (receiver ∷ arguments)) f
-    (casts_fit store.objects (member_at number).params 1 (receiver ∷ arguments) h))
+    (calls_fit rules store number (access.casts_from store.objects (member_in allow number).params 1 (receiver ∷ arguments)) f
+    (casts_fit store.objects (member_in allow number).params 1 (receiver ∷ arguments) h))
 
 pub method_called_fits : (rules : Rules) (allow : AllowList) (store : Store) (receiver : Value) (name : List ℕ) (arguments : List Value) → Fits rules store.objects
     → AllFit (length store.objects) (receiver ∷ arguments) → AccessFits rules store (access.method_called allow store receiver name arguments)
 unfolding access.method_called
 method_called_fits rules allow store receiver name arguments f h =
-    called_fits rules store receiver name arguments (access.target_for allow name (length arguments) (class_of store.objects receiver)) f h
+    called_fits rules allow store receiver name arguments (access.target_for allow name (length arguments) (class_of store.objects receiver)) f h
 
 -- ---- what comes of an access leaves each object there
 
@@ -386,14 +386,14 @@ property_written_leaves : (store : Store) (number : ℕ) (receiver value : Value
 property_written_leaves store number receiver value [] = tt
 property_written_leaves store number receiver value (of ∷ ofs) = property_put_leaves store number receiver (access.cast_to store.objects value of)
 
-put_named_leaves : (store : Store) (receiver : Value) (name : List ℕ) (value : Value) (found : Option NameAccess) → AccessLeaves store (access.name_written_by store receiver name value found)
-put_named_leaves store receiver name value None = failure_leaves store _
-put_named_leaves store receiver name value (Some (by_name.Key number)) = built_leaves store number (failures.no_accessor Write store.objects receiver name) _ tt
-put_named_leaves store receiver name value (Some (by_name.Item number place)) =
+put_named_leaves : (allow : AllowList) (store : Store) (receiver : Value) (name : List ℕ) (value : Value) (found : Option NameAccess) → AccessLeaves store (access.name_written_by allow store receiver name value found)
+put_named_leaves allow store receiver name value None = failure_leaves store _
+put_named_leaves allow store receiver name value (Some (by_name.Key number)) = built_leaves store number (failures.no_accessor Write store.objects receiver name) _ tt
+put_named_leaves allow store receiver name value (Some (by_name.Item number place)) =
     built_leaves store number (failures.no_accessor Write store.objects receiver name) _ (item_put_leaves store number receiver name value place)
-put_named_leaves store receiver name value (Some (by_name.Accessor number)) =
-    built_leaves store number (failures.no_accessor Write store.objects receiver name) _ (property_written_leaves store number receiver value (member_at number).params)
-put_named_leaves store receiver name value (Some by_name.Length) = failure_leaves store _
+put_named_leaves allow store receiver name value (Some (by_name.Accessor number)) =
+    built_leaves store number (failures.no_accessor Write store.objects receiver name) _ (property_written_leaves store number receiver value (member_in allow number).params)
+put_named_leaves allow store receiver name value (Some by_name.Length) = failure_leaves store _
 
 pub name_read_leaves : (allow : AllowList) (store : Store) (receiver : Value) (name : List ℕ) → AccessLeaves store (access.name_read allow store receiver name)
 unfolding access.name_read
@@ -401,20 +401,20 @@ name_read_leaves allow store receiver name = named_leaves store receiver name (n
 
 pub name_written_leaves : (allow : AllowList) (store : Store) (receiver : Value) (name : List ℕ) (value : Value) → AccessLeaves store (access.name_written allow store receiver name value)
 unfolding access.name_written
-name_written_leaves allow store receiver name value = put_named_leaves store receiver name value (name_access Write allow store.objects receiver name)
+name_written_leaves allow store receiver name value = put_named_leaves allow store receiver name value (name_access Write allow store.objects receiver name)
 
 calls_leave : (store : Store) (number : ℕ) (casts : Casts) → AccessLeaves store (access.calls_with store number casts)
 calls_leave store number (All values) = tt
 calls_leave store number (Ended told) = told_leaves store told
 
-called_leaves : (store : Store) (receiver : Value) (name : List ℕ) (arguments : List Value) (found : Option Callee) → AccessLeaves store (access.called_by store receiver name arguments found)
-called_leaves store receiver name arguments None = failure_leaves store _
-called_leaves store receiver name arguments (Some (Iface number)) = failure_leaves store _
-called_leaves store receiver name arguments (Some (Member number)) =
+called_leaves : (allow : AllowList) (store : Store) (receiver : Value) (name : List ℕ) (arguments : List Value) (found : Option Callee) → AccessLeaves store (access.called_by allow store receiver name arguments found)
+called_leaves allow store receiver name arguments None = failure_leaves store _
+called_leaves allow store receiver name arguments (Some (Iface number)) = failure_leaves store _
+called_leaves allow store receiver name arguments (Some (Member number)) =
     built_leaves store number (failures.no_method store.objects receiver name (length arguments)) _
-    (calls_leave store number (access.casts_from store.objects (member_at number).params 1 (receiver ∷ arguments)))
+    (calls_leave store number (access.casts_from store.objects (member_in allow number).params 1 (receiver ∷ arguments)))
 
 pub method_called_leaves : (allow : AllowList) (store : Store) (receiver : Value) (name : List ℕ) (arguments : List Value) → AccessLeaves store (access.method_called allow store receiver name arguments)
 unfolding access.method_called
 method_called_leaves allow store receiver name arguments =
-    called_leaves store receiver name arguments (access.target_for allow name (length arguments) (class_of store.objects receiver))
+    called_leaves allow store receiver name arguments (access.target_for allow name (length arguments) (class_of store.objects receiver))

@@ -7,7 +7,7 @@ use Rattle.pl_types.specs.declared.primitive.Primitive.TheVariants as prim
 use Rattle.pl_types.specs.declared.ty.Ty.{Ty}
 use Rattle.pl_types.specs.declared.ty.Ty.TheVariants as t
 use Rattle.allowlist.specs.Allow.{AllowList}
-use Rattle.allowlist.specs.Index.{member_at}
+use Rattle.allowlist.specs.Index.{member_in}
 use Rattle.object_values.specs.declared.object.Object.{Object}
 use Rattle.object_values.specs.declared.value.Value.{Value}
 use Rattle.object_values.specs.declared.value.Value.TheVariants as v
@@ -193,26 +193,31 @@ abbrev pub property_written : Store → ℕ → Value → Value → List Ty → 
 property_written store number receiver value [] = Calls number (receiver ∷ value ∷ [])
 property_written store number receiver value (of ∷ ofs) = property_put store number receiver (cast_to store.objects value of)
 
-abbrev pub name_written_by : Store → Value → List ℕ → Value → Option NameAccess → Access
-name_written_by store receiver name value None = Acts (fails store (no_accessor Write store.objects receiver name))
-name_written_by store receiver name value (Some (by_name.Key number)) =
-    if_built store number (no_accessor Write store.objects receiver name) (Calls number (receiver ∷ v.Str (units name) ∷ value ∷ []))
-name_written_by store receiver name value (Some (by_name.Item number place)) =
-    if_built store number (no_accessor Write store.objects receiver name) (item_written_at store number receiver name value place)
-name_written_by store receiver name value (Some (by_name.Accessor number)) =
-    if_built store number (no_accessor Write store.objects receiver name) (property_written store number receiver value (member_at number).params)
-name_written_by store receiver name value (Some by_name.Length) = Acts (fails store (no_accessor Write store.objects receiver name))
+-- under a key of a map, and at a place of a list
+abbrev pub key_put : Store → ℕ → Value → List ℕ → Value → Access
+key_put store number receiver name value = if_built store number (no_accessor Write store.objects receiver name) (Calls number (receiver ∷ v.Str (units name) ∷ value ∷ []))
+
+abbrev pub place_put : Store → ℕ → Value → List ℕ → Value → Place → Access
+place_put store number receiver name value place = if_built store number (no_accessor Write store.objects receiver name) (item_written_at store number receiver name value place)
+
+abbrev pub name_written_by : AllowList → Store → Value → List ℕ → Value → Option NameAccess → Access
+name_written_by allow store receiver name value None = Acts (fails store (no_accessor Write store.objects receiver name))
+name_written_by allow store receiver name value (Some (by_name.Key number)) = key_put store number receiver name value
+name_written_by allow store receiver name value (Some (by_name.Item number place)) = place_put store number receiver name value place
+name_written_by allow store receiver name value (Some (by_name.Accessor number)) =
+    if_built store number (no_accessor Write store.objects receiver name) (property_written store number receiver value (member_in allow number).params)
+name_written_by allow store receiver name value (Some by_name.Length) = Acts (fails store (no_accessor Write store.objects receiver name))
 
 unfoldable pub name_written : AllowList → Store → Value → List ℕ → Value → Access
-name_written allow store receiver name value = name_written_by store receiver name value (name_access Write allow store.objects receiver name)
+name_written allow store receiver name value = name_written_by allow store receiver name value (name_access Write allow store.objects receiver name)
 
 -- ---- `x.f(a)`. The method of a function value is not found, of which scripts have none yet.
 
-abbrev pub called_by : Store → Value → List ℕ → List Value → Option Callee → Access
-called_by store receiver name arguments None = Acts (fails store (no_method store.objects receiver name (length arguments)))
-called_by store receiver name arguments (Some (Iface number)) = Acts (fails store (no_method store.objects receiver name (length arguments)))
-called_by store receiver name arguments (Some (Member number)) =
-    if_built store number (no_method store.objects receiver name (length arguments)) (calls_with store number (casts_from store.objects (member_at number).params 1 (receiver ∷ arguments)))
+abbrev pub called_by : AllowList → Store → Value → List ℕ → List Value → Option Callee → Access
+called_by allow store receiver name arguments None = Acts (fails store (no_method store.objects receiver name (length arguments)))
+called_by allow store receiver name arguments (Some (Iface number)) = Acts (fails store (no_method store.objects receiver name (length arguments)))
+called_by allow store receiver name arguments (Some (Member number)) =
+    if_built store number (no_method store.objects receiver name (length arguments)) (calls_with store number (casts_from store.objects (member_in allow number).params 1 (receiver ∷ arguments)))
 
 abbrev pub target_for : AllowList → List ℕ → ℕ → Option ℕ → Option Callee
 target_for allow name arity None = None
@@ -220,4 +225,4 @@ target_for allow name arity (Some class) = target_of allow class name arity
 
 unfoldable pub method_called : AllowList → Store → Value → List ℕ → List Value → Access
 method_called allow store receiver name arguments =
-    called_by store receiver name arguments (target_for allow name (length arguments) (class_of store.objects receiver))
+    called_by allow store receiver name arguments (target_for allow name (length arguments) (class_of store.objects receiver))

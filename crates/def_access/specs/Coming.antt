@@ -2,7 +2,7 @@
 use Rattle.std.specs.Prelude.{◌≡◌, ℕ, ℤ, true, false, Option, Some, None, List, [], ◌∷◌, length, slice_set, Result, Ok, Err}
 use Rattle.pl_types.specs.declared.ty.Ty.{Ty}
 use Rattle.allowlist.specs.Allow.{AllowList, flag}
-use Rattle.allowlist.specs.Index.{member_at}
+use Rattle.allowlist.specs.Index.{member_in}
 use Rattle.object_values.specs.declared.object.Object.{Object}
 use Rattle.object_values.specs.declared.value.Value.{Value}
 use Rattle.object_values.specs.declared.value.Value.TheVariants as v
@@ -18,6 +18,7 @@ use Rattle.def_resolve.specs.declared.access.NameAccess.{NameAccess}
 use Rattle.def_resolve.specs.declared.access.NameAccess.TheVariants as by_name
 use Rattle.def_resolve.specs.declared.callee.Callee.{Callee}
 use Rattle.def_resolve.specs.declared.callee.Callee.TheVariants.{Member, Iface}
+use Rattle.def_resolve.specs.Failures.{fails, no_method}
 use Rattle.def_resolve.specs.Resolution.{class_of}
 use Rattle.def_access.specs.Access.{Access, Calls, Acts, Casts, All, Ended, called_by, calls_with, cast_to, casts_from, method_called, target_for, with_index}
 use Rattle.def_access.specs.declared.accessed.Accessed.{Accessed}
@@ -41,14 +42,19 @@ Comes access old new receiver others (said.CallsWith number first) = CallsAs acc
 Comes access old new receiver others (said.Acts answer) = ActsAs access old new answer
 
 -- a method that is called on the first of these values with the others; where there is none it is as if it were null
-abbrev pub called_on : Store → List ℕ → List Value → Option Callee → Access
-called_on store name [] found = Acts (on_null store)
-called_on store name (receiver ∷ arguments) found = called_by store receiver name arguments found
+abbrev pub called_on : AllowList → Store → List ℕ → List Value → Option Callee → Access
+called_on allow store name [] found = Acts (on_null store)
+called_on allow store name (receiver ∷ arguments) found = called_by allow store receiver name arguments found
+
+-- the same where no method is found
+abbrev pub not_found_on : Store → List ℕ → List Value → Access
+not_found_on store name [] = Acts (on_null store)
+not_found_on store name (receiver ∷ arguments) = Acts (fails store (no_method store.objects receiver name (length arguments)))
 
 -- the same of a member that is built
-abbrev pub built_on : Store → ℕ → List Value → Access
-built_on store number [] = Acts (on_null store)
-built_on store number (receiver ∷ arguments) = calls_with store number (casts_from store.objects (member_at number).params 1 (receiver ∷ arguments))
+abbrev pub built_on : AllowList → Store → ℕ → List Value → Access
+built_on allow store number [] = Acts (on_null store)
+built_on allow store number (receiver ∷ arguments) = calls_with store number (casts_from store.objects (member_in allow number).params 1 (receiver ∷ arguments))
 
 -- what a call on the first of these values means
 abbrev pub found_on : AllowList → List Object → List ℕ → List Value → Option Callee

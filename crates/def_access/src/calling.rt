@@ -1,7 +1,7 @@
 //! A call of a method by its name, on a value whose class is found when the script runs.
-ghost use Rattle.std.specs.Prelude.{◌≡◌, true, None, Some, IfSome};
+ghost use Rattle.std.specs.Prelude.{◌≡◌, true, Some, IfSome};
 ghost use Rattle.allowlist.specs.Allow.{flag};
-ghost use Rattle.allowlist.specs.Index.{member_at};
+ghost use Rattle.allowlist.specs.Index.{member_in};
 ghost use Rattle.def_access.specs.Access as spec;
 ghost use Rattle.def_access.specs.Coming as coming;
 ghost use Rattle.def_access.specs.Coming.{ActsAs, CalleeListed, ComesOn};
@@ -15,17 +15,17 @@ use member_calls::is_built;
 use object_heap::{Answer, Heap};
 use object_values::Value;
 
-// The member of a number that the list allows.
+// The member of a list with a number, which the list allows.
 pub(crate) fn member_at(allow: &Allow, number: u32) -> &MemberType
     requires { flag allow.now.members number ≡ true }
-    ensures { result.now ≡ member_at number }
+    ensures { result.now ≡ member_in allow.now number }
 {
     allow.member_type(number)
 }
 
 // What a method comes to that is not found.
 fn not_found(heap: &mut Heap, name: &str, values: &[Value]) -> Answer
-    ensures { ActsAs (coming.called_on heap.old name.now values.now None) heap.old heap.new result }
+    ensures { ActsAs (coming.not_found_on heap.old name.now values.now) heap.old heap.new result }
 {
     let [receiver, arguments @ ..] = values else {
         return on_null(heap);
@@ -39,7 +39,7 @@ fn not_found(heap: &mut Heap, name: &str, values: &[Value]) -> Answer
 // A member that is built.
 fn call_built(allow: &Allow, heap: &mut Heap, values: &mut [Value], number: u32) -> Accessed
     requires { flag allow.now.members number ≡ true }
-    ensures { ComesOn (coming.built_on heap.old number values.old) heap.old heap.new values.new result }
+    ensures { ComesOn (coming.built_on allow.now heap.old number values.old) heap.old heap.new values.new result }
 {
     if values.is_empty() {
         return Accessed::Acts(on_null(heap));
@@ -58,7 +58,7 @@ fn call_member(
     number: u32,
 ) -> Accessed
     requires { flag allow.now.members number ≡ true }
-    ensures { ComesOn (coming.called_on heap.old name.now values.old (Some (Callee.Member number))) heap.old heap.new values.new result }
+    ensures { ComesOn (coming.called_on allow.now heap.old name.now values.old (Some (Callee.Member number))) heap.old heap.new values.new result }
 {
     if is_built(number) {
         call_built(allow, heap, values, number)
@@ -79,7 +79,7 @@ pub fn call_found(
     found: Option<Callee>,
 ) -> Accessed
     requires { CalleeListed allow.now found }
-    ensures { ComesOn (coming.called_on heap.old name.now values.old found) heap.old heap.new values.new result }
+    ensures { ComesOn (coming.called_on allow.now heap.old name.now values.old found) heap.old heap.new values.new result }
 {
     match found {
         Some(Callee::Member(number)) => call_member(allow, heap, name, values, number),

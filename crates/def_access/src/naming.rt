@@ -111,7 +111,7 @@ pub fn name_read(allow: &Allow, heap: &mut Heap, receiver: &Value, name: &str) -
 // ---- writing
 
 fn write_key(heap: &mut Heap, receiver: &Value, name: &str, value: &Value, number: u32) -> Accessed
-    ensures { Comes (spec.name_written_by heap.old receiver.now name.now value.now (Some (NameAccess.Key number))) heap.old heap.new receiver.now (value.now ∷ []) result }
+    ensures { Comes (spec.key_put heap.old number receiver.now name.now value.now) heap.old heap.new receiver.now (value.now ∷ []) result }
 {
     // The value goes to the member as it is.
     let _value = value;
@@ -132,7 +132,7 @@ fn write_item(
     number: u32,
     place: Place,
 ) -> Accessed
-    ensures { Comes (spec.name_written_by heap.old receiver.now name.now value.now (Some (NameAccess.Item number place))) heap.old heap.new receiver.now (value.now ∷ []) result }
+    ensures { Comes (spec.place_put heap.old number receiver.now name.now value.now place) heap.old heap.new receiver.now (value.now ∷ []) result }
 {
     // The value goes to the member as it is.
     let _value = value;
@@ -192,7 +192,7 @@ fn write_property(
     number: u32,
 ) -> Accessed
     requires { flag allow.now.members number ≡ true }
-    ensures { Comes (spec.name_written_by heap.old receiver.now name.now value.old (Some (NameAccess.Accessor number))) heap.old heap.new receiver.now (value.new ∷ []) result }
+    ensures { Comes (spec.name_written_by allow.now heap.old receiver.now name.now value.old (Some (NameAccess.Accessor number))) heap.old heap.new receiver.now (value.new ∷ []) result }
 {
     if is_built(number) {
         write_as(
@@ -221,7 +221,7 @@ pub fn name_put_found(
     found: Option<NameAccess>,
 ) -> Accessed
     requires { NameListed allow.now found }
-    ensures { Comes (spec.name_written_by heap.old receiver.now name.now value.old found) heap.old heap.new receiver.now (value.new ∷ []) result }
+    ensures { Comes (spec.name_written_by allow.now heap.old receiver.now name.now value.old found) heap.old heap.new receiver.now (value.new ∷ []) result }
 {
     match found {
         Some(NameAccess::Key(number)) => write_key(heap, receiver, name, value, number),

@@ -26,12 +26,12 @@ AllListed allow found = (number : ℕ) → found ≡ Some number → IsListed al
 listed_instance : (allow : AllowList) (class : ℕ) (name : List ℕ) (arity : ℕ) → AllListed allow (instance_member allow class name arity)
 listed_instance allow class name arity number h = (is_member allow class name arity number h).member
 
-listed_in : (allow : AllowList) (class : ℕ) (name : List ℕ) (arity : ℕ) → AllListed allow (instance_in (member_of allow class name arity))
+listed_in : (allow : AllowList) (class : ℕ) (name : List ℕ) (arity : ℕ) → AllListed allow (instance_in allow (member_of allow class name arity))
 listed_in allow class name arity number h =
-    let p = is_instance_in (member_of allow class name arity) number h in
+    let p = is_instance_in allow (member_of allow class name arity) number h in
     listed allow class name arity number Instance p.0 p.1
 
-first_listed : (allow : AllowList) (first second : Option ℕ) → AllListed allow (instance_in first) → AllListed allow (instance_in second) → AllListed allow (instance_in (or_else first second))
+first_listed : (allow : AllowList) (first second : Option ℕ) → AllListed allow (instance_in allow first) → AllListed allow (instance_in allow second) → AllListed allow (instance_in allow (or_else first second))
 first_listed allow None second h k = k
 first_listed allow (Some number) second h k = h
 

@@ -5,9 +5,8 @@ use Rattle.std.proofs.Math.Bool.{or-true}
 use Rattle.std.proofs.lemmas.Bool.{cases_lt, eq-eqb, eqb-true, false≢true}
 use Rattle.pl_types.specs.Classes.{class_is_below, has, lineage_of, parents_of}
 use Rattle.allowlist.specs.declared.member.MemberKind.TheVariants.{Instance}
-use Rattle.allowlist.specs.Catalogue.{catalogue}
-use Rattle.allowlist.specs.Allow.{AllowList, first_along, member_of, or_else, own_member}
-use Rattle.allowlist.specs.Index.{member_at}
+use Rattle.allowlist.specs.Allow.{AllowList, first_along, member_of, members_in, or_else, own_member}
+use Rattle.allowlist.specs.Index.{member_in}
 use Rattle.allowlist.proofs.Members.{own_of, member_past}
 use Rattle.allowlist.proofs.Unique.{found_is_allowed, found_above}
 use Rattle.def_resolve.specs.Resolution.{instance_in, instance_member}
@@ -45,8 +44,8 @@ pub as_instance : (allow : AllowList) (class above : ℕ) (name : List ℕ) (ari
     → instance_member allow above name arity ≡ Some number → instance_member allow class name arity ≡ Some number
 unfolding instance_member
 as_instance allow class above name arity number same h =
-    let p = is_instance_in (member_of allow above name arity) number h in
-    ap instance_in (same p.0 ∙ sym p.0) ∙ h
+    let p = is_instance_in allow (member_of allow above name arity) number h in
+    ap (instance_in allow) (same p.0 ∙ sym p.0) ∙ h
 
 pub same_member : DepthFirst → (allow : AllowList) (class above : ℕ) (name : List ℕ) (arity number : ℕ) → Inherits allow name arity class above
     → instance_member allow above name arity ≡ Some number → instance_member allow class name arity ≡ Some number
@@ -89,7 +88,7 @@ some_below trans allow class above name arity number below h =
     let o = one_in (own_of allow name arity) (lineage_of above) number h in
     some_along (own_of allow name arity) (lineage_of class) o.0 number (trans class above o.0 below o.1) o.2
 
-called : (allow : AllowList) (class : ℕ) (name : List ℕ) (arity k : ℕ) → member_of allow class name arity ≡ Some k → IsCalled (member_at k) class name arity
+called : (allow : AllowList) (class : ℕ) (name : List ℕ) (arity k : ℕ) → member_of allow class name arity ≡ Some k → IsCalled (member_in allow k) class name arity
 called allow class name arity k h =
     let f = found_is_allowed allow class name arity k h in
     let a = found_above allow class name arity k h in
@@ -100,19 +99,19 @@ called allow class name arity k h =
       below = ap (λ m. class_is_below class m.owner) (sym (read_at k a.0 a.1)) ∙ a.2;
     }
 
-there : (allow : AllowList) (class : ℕ) (name : List ℕ) (arity k : ℕ) → member_of allow class name arity ≡ Some k → slice_get catalogue k ≡ Some (member_at k)
+there : (allow : AllowList) (class : ℕ) (name : List ℕ) (arity k : ℕ) → member_of allow class name arity ≡ Some k → slice_get (members_in allow) k ≡ Some (member_in allow k)
 there allow class name arity k h = let f = found_is_allowed allow class name arity k h in f.1.1 ∙ ap Some (read_at k f.1.0 f.1.1)
 
 small : (allow : AllowList) (class : ℕ) (name : List ℕ) (arity k : ℕ) → member_of allow class name arity ≡ Some k → class < 57
 small allow class name arity k h = elim (cases_lt class 57) [ inl l ↦ l | inr g ↦ (let e = sym (member_past allow class name arity g) ∙ h in cc) ]
 
 one_found : Transitive → (allow : AllowList) (class above : ℕ) (name : List ℕ) (arity number : ℕ) → class_is_below class above ≡ true → is_removal name arity ≡ false
-    → (member_at number).kind ≡ Instance → member_of allow above name arity ≡ Some number → member_of allow class name arity ≡ Some number
+    → (member_in allow number).kind ≡ Instance → member_of allow above name arity ≡ Some number → member_of allow class name arity ≡ Some number
 one_found trans allow class above name arity number below kept kind h =
     let s = some_below trans allow class above name arity number below h in
     let p = called allow above name arity number h in
-    let here : IsCalled (member_at number) class name arity = record { name_is = p.name_is; arity_is = p.arity_is; below = trans class above (member_at number).owner below p.below } in
-    let same = one_member number s.0 (member_at number) (member_at s.0) class name arity (small allow class name arity s.0 s.1)
+    let here : IsCalled (member_in allow number) class name arity = record { name_is = p.name_is; arity_is = p.arity_is; below = trans class above (member_in allow number).owner below p.below } in
+    let same = one_member number s.0 (member_in allow number) (member_in allow s.0) class name arity (small allow class name arity s.0 s.1)
     (there allow above name arity number h) (there allow class name arity s.0 s.1) kind kept here (called allow class name arity s.0 s.1) in
     s.1 ∙ ap Some (sym same)
 
@@ -120,5 +119,5 @@ pub one_instance : Transitive → (allow : AllowList) (class above : ℕ) (name 
     → instance_member allow above name arity ≡ Some number → instance_member allow class name arity ≡ Some number
 unfolding instance_member
 one_instance trans allow class above name arity number below kept h =
-    let p = is_instance_in (member_of allow above name arity) number h in
+    let p = is_instance_in allow (member_of allow above name arity) number h in
     as_instance allow class above name arity number (one_found trans allow class above name arity number below kept p.1) h

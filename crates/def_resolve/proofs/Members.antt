@@ -9,7 +9,7 @@ use Rattle.allowlist.specs.declared.member.MemberKind.{MemberKind}
 use Rattle.allowlist.specs.declared.member.MemberKind.TheVariants.{Constructor, Static, Instance, Field}
 use Rattle.allowlist.specs.Catalogue.{catalogue, constructor}
 use Rattle.allowlist.specs.Allow.{AllowList, has_name, member_of, iface_method_of}
-use Rattle.allowlist.specs.Index.{member_at}
+use Rattle.allowlist.specs.Index.{member_at, member_in}
 use Rattle.allowlist.proofs.Unique.{found_is_allowed, found_above}
 use Rattle.def_resolve.specs.declared.function.Reference.TheVariants as reference
 use Rattle.def_resolve.specs.Functions.{ReferenceConfined, instance_behind, is_constructor, is_static, static_in}
@@ -26,17 +26,17 @@ instance_at number k Static h = cc
 instance_at number k Instance h = (cc, refl)
 instance_at number k Field h = cc
 
-pub is_instance_in : (found : Option ℕ) (k : ℕ) → instance_in found ≡ Some k → (found ≡ Some k) × ((member_at k).kind ≡ Instance)
-is_instance_in None k h = cc
-is_instance_in (Some number) k h = let p = instance_at number k (member_at number).kind h in (ap Some p.0, ap (λ j. (member_at j).kind) (sym p.0) ∙ p.1)
+pub is_instance_in : (allow : AllowList) (found : Option ℕ) (k : ℕ) → instance_in allow found ≡ Some k → (found ≡ Some k) × ((member_in allow k).kind ≡ Instance)
+is_instance_in allow None k h = cc
+is_instance_in allow (Some number) k h = let p = instance_at number k (member_in allow number).kind h in (ap Some p.0, ap (λ j. (member_in allow j).kind) (sym p.0) ∙ p.1)
 
-pub listed : (allow : AllowList) (class : ℕ) (name : List ℕ) (arity number : ℕ) (kind : MemberKind) → member_of allow class name arity ≡ Some number → (member_at number).kind ≡ kind → IsListed allow kind number
+pub listed : (allow : AllowList) (class : ℕ) (name : List ℕ) (arity number : ℕ) (kind : MemberKind) → member_of allow class name arity ≡ Some number → (member_in allow number).kind ≡ kind → IsListed allow kind number
 listed allow class name arity number kind h is = record { allowed = (found_is_allowed allow class name arity number h).0; kind_is = is }
 
 pub is_member : (allow : AllowList) (class : ℕ) (name : List ℕ) (arity number : ℕ) → instance_member allow class name arity ≡ Some number → IsMember allow class name arity number
 unfolding instance_member
 is_member allow class name arity number h =
-    let p = is_instance_in (member_of allow class name arity) number h in
+    let p = is_instance_in allow (member_of allow class name arity) number h in
     let f = found_is_allowed allow class name arity number p.0 in
     let a = found_above allow class name arity number p.0 in
     let at = sym (read_at number f.1.0 f.1.1) in
@@ -69,12 +69,12 @@ static_at number k Static h = (cc, refl)
 static_at number k Instance h = cc
 static_at number k Field h = cc
 
-is_static_in : (found : Option ℕ) (k : ℕ) → static_in found ≡ Some k → (found ≡ Some k) × ((member_at k).kind ≡ Static)
-is_static_in None k h = cc
-is_static_in (Some number) k h = let p = static_at number k (member_at number).kind h in (ap Some p.0, ap (λ j. (member_at j).kind) (sym p.0) ∙ p.1)
+is_static_in : (allow : AllowList) (found : Option ℕ) (k : ℕ) → static_in allow found ≡ Some k → (found ≡ Some k) × ((member_in allow k).kind ≡ Static)
+is_static_in allow None k h = cc
+is_static_in allow (Some number) k h = let p = static_at number k (member_in allow number).kind h in (ap Some p.0, ap (λ j. (member_in allow j).kind) (sym p.0) ∙ p.1)
 
-pub static_listed : (allow : AllowList) (class : ℕ) (name : List ℕ) (arity : ℕ) (found : Option ℕ) (number : ℕ) → found ≡ member_of allow class name arity → static_in found ≡ Some number → IsListed allow Static number
-static_listed allow class name arity found number e h = let p = is_static_in found number h in listed allow class name arity number Static (sym e ∙ p.0) p.1
+pub static_listed : (allow : AllowList) (class : ℕ) (name : List ℕ) (arity : ℕ) (found : Option ℕ) (number : ℕ) → found ≡ member_of allow class name arity → static_in allow found ≡ Some number → IsListed allow Static number
+static_listed allow class name arity found number e h = let p = is_static_in allow found number h in listed allow class name arity number Static (sym e ∙ p.0) p.1
 
 behind_listed : (allow : AllowList) (class : ℕ) (name : List ℕ) (others : ℕ) (found : Option ℕ) → found ≡ instance_member allow class name others → ReferenceConfined allow (option_map reference.Instance found)
 behind_listed allow class name others None h = tt
@@ -90,5 +90,5 @@ constructor_kind Static h = absurd (false≢true h)
 constructor_kind Instance h = absurd (false≢true h)
 constructor_kind Field h = absurd (false≢true h)
 
-pub constructor_listed : (allow : AllowList) (class arity number : ℕ) → member_of allow class [] arity ≡ Some number → is_constructor (member_at number).kind ≡ true → IsListed allow Constructor number
-constructor_listed allow class arity number h k = listed allow class [] arity number Constructor h (constructor_kind (member_at number).kind k)
+pub constructor_listed : (allow : AllowList) (class arity number : ℕ) → member_of allow class [] arity ≡ Some number → is_constructor (member_in allow number).kind ≡ true → IsListed allow Constructor number
+constructor_listed allow class arity number h k = listed allow class [] arity number Constructor h (constructor_kind (member_in allow number).kind k)

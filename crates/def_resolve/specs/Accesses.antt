@@ -28,8 +28,8 @@ use Rattle.def_resolve.specs.Resolution.{IsListed, class_of, class_of_object, in
 -- the accessor of a property: to read it `get` before its name, or else `is`, and to write it `set`
 unfoldable pub accessor_of : Purpose → AllowList → ℕ → List ℕ → Option ℕ
 accessor_of Read allow class property =
-    instance_in (or_else (member_of allow class (accessor_name Get property) 0) (member_of allow class (accessor_name Is property) 0))
-accessor_of Write allow class property = instance_in (member_of allow class (accessor_name Set property) 1)
+    instance_in allow (or_else (member_of allow class (accessor_name Get property) 0) (member_of allow class (accessor_name Is property) 0))
+accessor_of Write allow class property = instance_in allow (member_of allow class (accessor_name Set property) 1)
 
 -- an item of a list: `get` and `set`
 unfoldable pub item_member : Purpose → AllowList → ℕ → Option ℕ

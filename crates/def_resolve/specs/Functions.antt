@@ -5,7 +5,7 @@ use Rattle.pl_types.specs.declared.ty.Ty.TheOpen.{Ty-F}
 use Rattle.allowlist.specs.declared.member.MemberKind.{MemberKind}
 use Rattle.allowlist.specs.declared.member.MemberKind.TheVariants as kind
 use Rattle.allowlist.specs.Allow.{AllowList, member_of, iface_method_of}
-use Rattle.allowlist.specs.Index.{member_at}
+use Rattle.allowlist.specs.Index.{member_at, member_in}
 use Rattle.object_values.specs.declared.object.Object.{Object}
 use Rattle.object_values.specs.declared.object.Object.TheVariants as o
 use Rattle.object_values.specs.declared.object.Target.{Target}
@@ -24,9 +24,9 @@ abbrev pub is_constructor : MemberKind → Bool
 is_constructor kind.Constructor = true
 is_constructor kind = false
 
-abbrev pub static_in : Option ℕ → Option ℕ
-static_in None = None
-static_in (Some number) = if is_static (member_at number).kind then Some number else None
+abbrev pub static_in : AllowList → Option ℕ → Option ℕ
+static_in allow None = None
+static_in allow (Some number) = if is_static (member_in allow number).kind then Some number else None
 
 -- the instance member with one parameter less, since the first argument is its receiver
 abbrev pub instance_behind : AllowList → ℕ → List ℕ → ℕ → Option Reference
@@ -39,16 +39,16 @@ static_or (Some number) reference = Some (Static number)
 
 -- `T::m`: what the class has with this name and as many parameters, if that is static, else the instance member of one less.
 unfoldable pub reference_of : AllowList → ℕ → List ℕ → ℕ → Option Reference
-reference_of allow class name arity = static_or (static_in (member_of allow class name arity)) (instance_behind allow class name arity)
+reference_of allow class name arity = static_or (static_in allow (member_of allow class name arity)) (instance_behind allow class name arity)
 
-abbrev pub constructor_in : ℕ → Option ℕ → Option ℕ
-constructor_in class None = None
-constructor_in class (Some number) =
-    if (member_at number).owner == class && is_constructor (member_at number).kind then Some number else None
+abbrev pub constructor_in : AllowList → ℕ → Option ℕ → Option ℕ
+constructor_in allow class None = None
+constructor_in allow class (Some number) =
+    if (member_in allow number).owner == class && is_constructor (member_in allow number).kind then Some number else None
 
 -- `T::new` of a class: its own allowed constructor, which is the member without a name.
 unfoldable pub constructor_of : AllowList → ℕ → ℕ → Option ℕ
-constructor_of allow class arity = constructor_in class (member_of allow class [] arity)
+constructor_of allow class arity = constructor_in allow class (member_of allow class [] arity)
 
 -- whether `T::new` means something: of an array type it makes an array of the length that is its one argument
 abbrev pub layer_makes : AllowList → ℕ → Ty-F Ty → Bool
@@ -93,4 +93,4 @@ ReferenceConfined allow (Some (Instance number)) = IsListed allow kind.Instance 
 
 abbrev pub ConstructorConfined : AllowList → ℕ → Option ℕ → Type 0
 ConstructorConfined allow class None = Unit {0}
-ConstructorConfined allow class (Some number) = IsListed allow kind.Constructor number × ((member_at number).owner ≡ class)
+ConstructorConfined allow class (Some number) = IsListed allow kind.Constructor number × ((member_in allow number).owner ≡ class)

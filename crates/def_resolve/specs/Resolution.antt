@@ -5,7 +5,7 @@ use Rattle.pl_types.specs.Classes.{class_is_below}
 use Rattle.allowlist.specs.declared.member.MemberKind.{MemberKind}
 use Rattle.allowlist.specs.declared.member.MemberKind.TheVariants.{Instance}
 use Rattle.allowlist.specs.Allow.{AllowList, flag, has_name, member_of, iface_method_of}
-use Rattle.allowlist.specs.Index.{member_at}
+use Rattle.allowlist.specs.Index.{member_at, member_in}
 use Rattle.object_values.specs.declared.object.Object.{Object}
 use Rattle.object_values.specs.declared.object.Object.TheVariants as o
 use Rattle.object_values.specs.declared.value.Value.{Value}
@@ -54,14 +54,14 @@ is_instance kind = false
 
 -- A call on a value takes an instance member. What is found first decides: behind a static member, a constructor or a field no
 -- farther class is looked at, and there is none.
-abbrev pub instance_in : Option ℕ → Option ℕ
-instance_in None = None
-instance_in (Some number) = if is_instance (member_at number).kind then Some number else None
+abbrev pub instance_in : AllowList → Option ℕ → Option ℕ
+instance_in allow None = None
+instance_in allow (Some number) = if is_instance (member_in allow number).kind then Some number else None
 
 -- the instance member of a class with a name and a number of parameters: its own that the list allows, else the first that its
 -- parents give, depth first in their order. A class that the list leaves out has no members of its own, and still has its parents.
 unfoldable pub instance_member : AllowList → ℕ → List ℕ → ℕ → Option ℕ
-instance_member allow class name arity = instance_in (member_of allow class name arity)
+instance_member allow class name arity = instance_in allow (member_of allow class name arity)
 
 -- ---- calls
 
@@ -88,14 +88,14 @@ target_of allow class name arity = method_or (method_called class name arity) (i
 -- a member of this kind that the list allows
 pub record IsListed (allow : AllowList) (kind : MemberKind) (number : ℕ) : Type 0 where
   pub allowed : flag allow.members number ≡ true
-  pub kind_is : (member_at number).kind ≡ kind
+  pub kind_is : (member_in allow number).kind ≡ kind
 
 -- an instance member that the list allows and a class has, itself or by its parents, with this name and this number of parameters
 pub record IsMember (allow : AllowList) (class : ℕ) (name : List ℕ) (arity number : ℕ) : Type 0 where
   pub member : IsListed allow Instance number
-  pub called : (member_at number).name ≡ name
-  pub takes : length (member_at number).params ≡ arity
-  pub above : class_is_below class (member_at number).owner ≡ true
+  pub called : (member_in allow number).name ≡ name
+  pub takes : length (member_in allow number).params ≡ arity
+  pub above : class_is_below class (member_in allow number).owner ≡ true
 
 -- the method of the interface that the class is, with this name and this number of parameters
 pub record IsMethod (class : ℕ) (name : List ℕ) (arity number : ℕ) : Type 0 where

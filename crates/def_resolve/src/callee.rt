@@ -10,7 +10,7 @@ use allowlist::{Allow, MemberType};
 /// What a call on a value means.
 #[derive(Clone, Copy)]
 pub enum Callee {
-    /// A member of the catalogue, by its number. It is called on the value.
+    /// A member of the list, by its number. It is called on the value.
     Member(u32),
     /// The method of the value's interface, by its number. What the value stands for is called.
     Iface(u32),

@@ -39,7 +39,7 @@ fn is_constructor(kind: MemberKind) -> bool
 /// What is found, where it is static.
 fn static_in(allow: &Allow, found: Option<u32>) -> Option<u32>
     requires { IfSome found (λ number. number < length allow.now.members) }
-    ensures { result ≡ static_in found }
+    ensures { result ≡ static_in allow.now found }
 {
     let number = found?;
     if is_static(member_at(allow, number).kind) {

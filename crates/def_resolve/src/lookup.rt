@@ -1,17 +1,17 @@
-//! Which member of the catalogue is found.
+//! Which member of a list is found.
 
 ghost use Rattle.std.specs.Prelude.{◌≡◌, ◌<◌, IfSome, length};
 ghost use Rattle.allowlist.specs.Allow.{member_of, iface_method_of};
 ghost use Rattle.allowlist.specs.Accessors.{accessor_name, arity_of};
-ghost use Rattle.allowlist.specs.Index.{member_at};
+ghost use Rattle.allowlist.specs.Index.{member_in};
 ghost use Rattle.def_resolve.specs.Resolution.{instance_in, instance_member};
 
 use allowlist::{Accessor, Allow, MemberKind, MemberType};
 
-/// The member of the catalogue with a number.
+/// The member of a list with a number.
 pub(crate) fn member_at(allow: &Allow, number: u32) -> &MemberType
     requires { number < length allow.now.members }
-    ensures { result.now ≡ member_at number }
+    ensures { result.now ≡ member_in allow.now number }
 {
     allow.member_type(number)
 }
@@ -43,7 +43,7 @@ pub(crate) fn iface_method(allow: &Allow, class: u32) -> Option<u32>
 /// What is found, where it is an instance member.
 pub(crate) fn instance_in(allow: &Allow, found: Option<u32>) -> Option<u32>
     requires { IfSome found (λ number. number < length allow.now.members) }
-    ensures { result ≡ instance_in found }
+    ensures { result ≡ instance_in allow.now found }
 {
     let number = found?;
     match member_at(allow, number).kind {

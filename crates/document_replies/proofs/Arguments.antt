@@ -10,8 +10,9 @@ use Rattle.search_ctx.specs.declared.values.FieldValues.{FieldValues}
 use Rattle.search_ctx.specs.declared.line.SearchKind.{SearchKind}
 use Rattle.search_ctx.specs.declared.line.SearchKind.TheVariants as k
 use Rattle.search_ctx.specs.DocValues.{doc_of_members}
-use Rattle.search_ctx.specs.Lines.{Start, Fault, number_outside, Search, score_key, score_of, score_args, without, scored_search, search_in, search_of, started, or_field, bound_document, bound_line}
-use Rattle.document_replies.specs.Jobs.{HasArguments}
+use Rattle.json_bridge.specs.Starts.{Start, Fault, number_outside, or_field}
+use Rattle.search_ctx.specs.Lines.{Search, score_key, score_of, score_args, without, scored_search, search_in, search_of, started, bound_document, bound_line}
+use Rattle.document_replies.specs.Searches.{HasArguments}
 
 -- the score that a kind has
 abbrev HasScore : SearchKind → Option ℤ → Type 0

@@ -3,11 +3,11 @@ use Rattle.std.proofs.Common.{◌≡◌, ℕ, Bool, true, false, List, Result, O
 use Rattle.std.proofs.lemmas.Str.{IsUtf8-from_is_utf8, is_utf8-from_IsUtf8}
 use Rattle.std.specs.Str.{IsUtf8, is_utf8}
 use Rattle.serde_json.specs.Read.{read}
-use Rattle.search_ctx.specs.Lines.{Start, syntax, Answered, bound_line}
-use Rattle.search_ctx.specs.declared.line.Bound.{Bound}
-use Rattle.search_ctx.specs.declared.error.BindErr.{BindErr}
-use Rattle.document_replies.specs.Jobs.{HasArguments}
-use Rattle.document_replies.specs.Replies.{Documents, start_of}
+use Rattle.json_bridge.specs.Starts.{Start, syntax, Answered}
+use Rattle.search_ctx.specs.Lines.{bound_line}
+use Rattle.json_bridge.specs.declared.start.Bound.{Bound}
+use Rattle.json_bridge.specs.declared.error.BindErr.{BindErr}
+use Rattle.document_replies.specs.Searches.{Documents, HasArguments, start_of}
 use Rattle.document_replies.proofs.Arguments.{StartTakes, bound_takes, start_takes}
 
 contradicts : {b : Bool} → b ≡ true → b ≡ false → ⊥

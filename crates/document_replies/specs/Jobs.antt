@@ -1,18 +1,18 @@
--- A job of the code as what it says of its documents, and the runs of its script.
-use Rattle.std.specs.Prelude.{◌≡◌, ℤ, List, [], ◌∷◌}
-use Rattle.serde_json.specs.View.{view}
+-- A job of the code as what it says of its lines, and the runs of its script.
+use Rattle.std.specs.Prelude.{◌≡◌, ℕ, List, Result, Ok, Err}
+use Rattle.serde_json.specs.Data.{Data}
 use Rattle.object_values.specs.declared.value.Value.{Value}
-use Rattle.object_values.specs.declared.value.Value.TheVariants as v
 use Rattle.object_heap.specs.Store.{Store}
 use Rattle.object_heap.specs.declared.outcome.Outcome.{Outcome}
-use Rattle.search_ctx.specs.declared.line.SearchKind.{SearchKind}
-use Rattle.search_ctx.specs.declared.line.SearchKind.TheVariants as k
-use Rattle.search_ctx.specs.Lines.{Start}
-use Rattle.document_replies.specs.declared.settings.Settings.{Settings}
-use Rattle.document_replies.specs.Replies.{Documents, Ended}
+use Rattle.json_bridge.specs.Starts.{Start, Fault, Answered, start_view}
+use Rattle.json_bridge.specs.declared.error.BindErr.{BindErr}
+use Rattle.json_replies.specs.declared.showing.ShownKeys.{ShownKeys}
+use Rattle.document_replies.specs.declared.context.BoundLine.{BoundLine}
+use Rattle.document_replies.specs.Replies.{Context, Ended}
 
-abbrev pub documents_of : Settings → Documents
-documents_of s = record { kind = s.kind; fields = s.fields; params = view s.params; room = s.room; keys = s.keys }
+-- a context by its parts
+abbrev pub context_of : (List ℕ → Result Start Fault) → (Start → Ended → Data) → ShownKeys → Context
+context_of start reply keys = record { start = start; reply = reply; keys = keys }
 
 -- the runs of a script by their starts
 abbrev pub by_start : (Store → List Value → Ended → Type 0) → Start → Ended → Type 0
@@ -21,8 +21,11 @@ by_start Ends start = Ends start.store start.args
 abbrev pub ended_of : Outcome → Ended
 ended_of o = record { end = o.end; objects = o.heap.objects; reached = o.reached; steps = o.steps }
 
--- the arguments of a kind: the params and the document, and the score
-abbrev pub HasArguments : SearchKind → List Value → Type 0
-HasArguments k.Filter args = (params : Value) × (doc : Value) × (args ≡ params ∷ doc ∷ [])
-HasArguments k.Score args = (params : Value) × (doc : Value) × (score : ℤ) × (args ≡ params ∷ doc ∷ v.Long score ∷ [])
-HasArguments k.Field args = (params : Value) × (doc : Value) × (args ≡ params ∷ doc ∷ [])
+-- The answer of binding is what the definition says, and so is kept of the start what a reply needs. Want of memory is free.
+abbrev pub Binds : {K : Type 0} → (Start → K → Type 0) → Result (BoundLine K) BindErr → Result Start Fault → Type 0
+Binds keeps (Ok line) meaning = (meaning ≡ Ok (start_view line.bound)) × keeps (start_view line.bound) line.kept
+Binds keeps (Err error) meaning = Answered (Err error) meaning
+
+-- so may the arguments of every start be
+abbrev pub TakesStarts : (List ℕ → Result Start Fault) → (List Value → Type 0) → Type 0
+TakesStarts start takes = (line : List ℕ) (begun : Start) → start line ≡ Ok begun → takes begun.args

@@ -1,40 +1,40 @@
-//! A job over documents, which replies to lines.
+//! A job over lines, which replies to each of them.
 
-ghost use Rattle.std.specs.Prelude.{◌≡◌, true, List, IfOk, Ok, string_bytes};
+ghost use Rattle.std.specs.Prelude.{◌≡◌, true, IfOk, Ok, string_bytes};
 ghost use Rattle.std.specs.List.{list_all};
 ghost use Rattle.allowlist.specs.Allow.{flag};
 ghost use Rattle.outer_io.specs.Lines.{InputLine, Within, Beyond};
-ghost use Rattle.object_values.specs.declared.value.Value.{Value};
-ghost use Rattle.search_ctx.specs.Lines.{start_view};
+ghost use Rattle.json_bridge.specs.Starts.{Start, start_view};
 ghost use Rattle.job_replies.specs.Refusals.{line_error};
 ghost use Rattle.line_run.specs.Replies.{Reply, no_reply};
 ghost use Rattle.line_run.specs.Shown.{reply_shown};
-ghost use Rattle.document_replies.specs.Jobs.{HasArguments, by_start, documents_of, ended_of};
-ghost use Rattle.document_replies.specs.Replies.{IsReply, IsReplyTo, as_line, reply_to_run, start_of};
+ghost use Rattle.document_replies.specs.Jobs.{TakesStarts, by_start, context_of, ended_of};
+ghost use Rattle.document_replies.specs.Replies.{IsReply, IsReplyTo, as_line, reply_to_run};
 
 use crate::blank::is_blank;
+use crate::context::{BoundLine, LineContext};
 use crate::script::DocumentScript;
-use crate::settings::Settings;
-use allowlist::Allow;
 use job_replies::LineFault;
-use json_reading::Scratch;
-use json_replies::shown_reply_line;
+use json_bridge::{BindErr, Bound};
+use json_replies::ShownKeys;
 use line_run::{Replier, ReplyLine};
 use object_heap::Outcome;
-use search_ctx::{BindErr, Bound, bind_line};
 use std::alloc::{AllocError, Global};
 
-/// A job over documents: its script, and what is made once beside it.
+/// A job over lines: its context and its script, and what is made once beside them.
 #[derive(Drop)]
-pub struct DocumentJob<D> {
-    pub settings: Settings,
+pub struct DocumentJob<C, D> {
+    pub alloc: Global,
+    pub context: C,
+    /// What is shown beside the reply to a run.
+    pub keys: ShownKeys,
     pub script: D,
 }
 
 /// The memory that is kept from one line to the next: what reads lines, and what runs scripts.
 #[derive(Drop)]
-pub struct DocumentScratch<M> {
-    pub reading: Scratch,
+pub struct DocumentScratch<R, M> {
+    pub reading: R,
     pub running: M,
 }
 
@@ -63,73 +63,76 @@ fn reply_to_fault(alloc: Global, fault: LineFault) -> Result<ReplyLine, AllocErr
     Ok(told(String::from_str(alloc, fault.reply())?, true))
 }
 
-/// The reply to a run, which called members of a list alone.
-fn reply_to_outcome(
-    settings: &Settings,
-    allow: &Allow,
-    outcome: &Outcome,
-) -> Result<ReplyLine, AllocError>
-    requires { list_all (flag allow.now.members) outcome.now.reached ≡ true }
-    ensures { IfOk result (λ reply. reply_shown reply ≡ reply_to_run (documents_of settings.now) (ended_of outcome.now)) }
-{
-    let line = shown_reply_line(settings.alloc, allow, settings.kind, settings.keys, outcome)?;
-    Ok(ReplyLine {
-        text: line.text,
-        is_error: line.is_error,
-        steps: outcome.steps,
-    })
-}
-
-impl<D: DocumentScript> DocumentJob<D> {
-    /// The reply to a line that is bound.
-    fn reply_to_bound(&self, bound: Bound, memory: &mut D::Memory) -> Result<ReplyLine, AllocError>
+impl<C: LineContext, D: DocumentScript> DocumentJob<C, D> {
+    /// A run over a line that is bound.
+    fn run_over(&self, bound: Bound, memory: &mut D::Memory) -> Result<Outcome, AllocError>
         requires { D.takes self.now.script bound.args }
-        ensures { IfOk result (λ reply. IsReplyTo (documents_of self.now.settings) (by_start (D.ends self.now.script)) (Ok (start_view bound)) (reply_shown reply)) }
+        ensures ends { IfOk result (λ outcome. by_start (D.ends self.now.script) (start_view bound) (ended_of outcome)) }
+        ensures reaches { IfOk result (λ outcome. list_all (flag (D.list self.now.script).members) outcome.reached ≡ true) }
     {
         let (heap, args) = bound.into_parts();
-        let outcome = self.script.run(memory, heap, args.into_vec())?;
-        reply_to_outcome(&self.settings, self.script.allow(), &outcome)
+        self.script.run(memory, heap, args.into_vec())
+    }
+
+    /// The reply to a run, which called members of the script's list alone, by what is kept of its start.
+    fn reply_to_outcome(&self, kept: C::Kept, outcome: &Outcome) -> Result<ReplyLine, AllocError>
+        requires { list_all (flag (D.list self.now.script).members) outcome.now.reached ≡ true }
+        ensures { IfOk result (λ reply. (from : Start) → C.keeps self.now.context from kept → reply_shown reply ≡ reply_to_run (D.list self.now.script) (context_of (C.start self.now.context) (C.answer self.now.context) self.now.keys) from (ended_of outcome.now)) }
+    {
+        let line = self
+            .context
+            .reply(self.script.allow(), self.keys, kept, outcome)?;
+        Ok(ReplyLine {
+            text: line.text,
+            is_error: line.is_error,
+            steps: outcome.steps,
+        })
+    }
+
+    /// The reply to a line that is bound.
+    fn reply_to_bound(
+        &self,
+        line: BoundLine<C::Kept>,
+        memory: &mut D::Memory,
+    ) -> Result<ReplyLine, AllocError>
+        requires takes { D.takes self.now.script line.bound.args }
+        requires keeps { C.keeps self.now.context (start_view line.bound) line.kept }
+        ensures { IfOk result (λ reply. IsReplyTo (D.list self.now.script) (context_of (C.start self.now.context) (C.answer self.now.context) self.now.keys) (by_start (D.ends self.now.script)) (Ok (start_view line.bound)) (reply_shown reply)) }
+    {
+        let BoundLine { bound, kept } = line;
+        let outcome = self.run_over(bound, memory)?;
+        self.reply_to_outcome(kept, &outcome)
     }
 
     /// The reply to a line that is not blank.
     fn reply_to_document(
         &self,
         line: &[u8],
-        scratch: &mut DocumentScratch<D::Memory>,
+        scratch: &mut DocumentScratch<C::Scratch, D::Memory>,
     ) -> Result<ReplyLine, AllocError>
-        requires { (args : List Value) → HasArguments self.now.settings.kind args → D.takes self.now.script args }
-        ensures { IfOk result (λ reply. IsReplyTo (documents_of self.now.settings) (by_start (D.ends self.now.script)) (start_of (documents_of self.now.settings) line.now) (reply_shown reply)) }
+        requires { TakesStarts (C.start self.now.context) (D.takes self.now.script) }
+        ensures { IfOk result (λ reply. IsReplyTo (D.list self.now.script) (context_of (C.start self.now.context) (C.answer self.now.context) self.now.keys) (by_start (D.ends self.now.script)) (C.start self.now.context line.now) (reply_shown reply)) }
     {
-        let settings = &self.settings;
-        match bind_line(
-            settings.alloc,
-            settings.kind,
-            &settings.fields,
-            &settings.params,
-            line,
-            settings.room,
-            settings.seed,
-            &mut scratch.reading,
-        ) {
-            Ok(bound) => self.reply_to_bound(bound, &mut scratch.running),
-            Err(BindErr::Syntax) => reply_to_fault(settings.alloc, LineFault::Syntax),
-            Err(BindErr::Number) => reply_to_fault(settings.alloc, LineFault::Number),
-            Err(BindErr::Field) => reply_to_fault(settings.alloc, LineFault::Field),
+        match self.context.bind(line, &mut scratch.reading) {
+            Ok(found) => self.reply_to_bound(found, &mut scratch.running),
+            Err(BindErr::Syntax) => reply_to_fault(self.alloc, LineFault::Syntax),
+            Err(BindErr::Number) => reply_to_fault(self.alloc, LineFault::Number),
+            Err(BindErr::Field) => reply_to_fault(self.alloc, LineFault::Field),
             Err(BindErr::NoMemory) => Err(AllocError),
         }
     }
 }
 
-impl<D: DocumentScript> Replier for DocumentJob<D> {
-    type Scratch = DocumentScratch<D::Memory>;
+impl<C: LineContext, D: DocumentScript> Replier for DocumentJob<C, D> {
+    type Scratch = DocumentScratch<C::Scratch, D::Memory>;
 
-    ghost ready = { λ job. (args : List Value) → HasArguments job.settings.kind args → D.takes job.script args };
+    ghost ready = { λ job. TakesStarts (C.start job.context) (D.takes job.script) };
 
-    ghost gives = { λ job line reply. IsReply (documents_of job.settings) (by_start (D.ends job.script)) line reply };
+    ghost gives = { λ job line reply. IsReply (D.list job.script) (context_of (C.start job.context) (C.answer job.context) job.keys) (by_start (D.ends job.script)) line reply };
 
-    fn scratch(&self, alloc: Global) -> DocumentScratch<D::Memory> {
+    fn scratch(&self, alloc: Global) -> DocumentScratch<C::Scratch, D::Memory> {
         DocumentScratch {
-            reading: Scratch::new(alloc),
+            reading: self.context.scratch(alloc),
             running: self.script.memory(alloc),
         }
     }
@@ -137,15 +140,15 @@ impl<D: DocumentScript> Replier for DocumentJob<D> {
     fn reply(
         &self,
         line: &[u8],
-        scratch: &mut DocumentScratch<D::Memory>,
+        scratch: &mut DocumentScratch<C::Scratch, D::Memory>,
     ) -> Result<ReplyLine, AllocError> {
         if is_blank(line) {
-            return Ok(nothing(self.settings.alloc));
+            return Ok(nothing(self.alloc));
         }
         self.reply_to_document(line, scratch)
     }
 
     fn reply_to_long(&self) -> Result<ReplyLine, AllocError> {
-        reply_to_fault(self.settings.alloc, LineFault::Long)
+        reply_to_fault(self.alloc, LineFault::Long)
     }
 }

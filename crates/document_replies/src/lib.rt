@@ -1,14 +1,18 @@
-//! The reply to a line of a job over documents, by any script.
+//! The reply to a line of a job over lines, in any context and by any script; and the contexts over documents.
 #![tactic(auto)]
 
 mod blank;
+mod context;
 mod job;
 mod script;
-mod settings;
+mod search;
 
+pub use context::{BoundLine, LineContext};
 pub use job::{DocumentJob, DocumentScratch};
-pub use job_replies::{accepted_line, listing_line, prelude_listing_line};
-pub use json_replies::{ShownKeys, line_of, refusal_line};
-pub use line_run::{Ran, run_lines};
+pub use job_replies::{
+    accepted_line, prelude_listing_line, script_listing_line, script_refusal_line,
+};
+pub use json_replies::{Line, ShownKeys, line_of};
+pub use line_run::{Ran, Stateless, run_lines};
 pub use script::DocumentScript;
-pub use settings::Settings;
+pub use search::{NothingKept, SearchContext};

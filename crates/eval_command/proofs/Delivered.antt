@@ -12,10 +12,10 @@ use Rattle.command_parts.specs.declared.report.Report.{Report}
 use Rattle.command_parts.specs.declared.status.Status.{Status}
 use Rattle.command_parts.specs.declared.status.Status.TheVariants as s
 use Rattle.command_parts.specs.Before.{EndsBefore}
-use Rattle.command_parts.specs.Delivers.{Delivers}
+use Rattle.command_parts.specs.DeliversOver.{DeliversUnread}
 use Rattle.command_parts.specs.Reports.{texts_of, IsQuiet, ReportsBy, Reports}
 use Rattle.command_parts.specs.Told.{Told, silent, file_limit}
-use Rattle.command_parts.proofs.Delivering.{nothing, no_front, delivers_same}
+use Rattle.command_parts.proofs.Delivering.{nothing, IsAnswered, whole_delivers, failed_delivers, cut_delivers, none_delivers, absent_delivers, long_delivers, delivers_same}
 use Rattle.eval_command.specs.declared.reply.Answer.{Answer}
 use Rattle.eval_command.specs.Answers.{told_by}
 use Rattle.eval_command.specs.Codes.{AreCodesOf, AreCodesIn}
@@ -39,13 +39,6 @@ shown_long None name h = let long = long_list file_limit in (λ _. Some long.0, 
 shown_long (Some k) name h = (k, refl, h)
 
 -- ---- answers
-
--- the statuses of answers
-abbrev pub IsAnswered : Status → Type 0
-IsAnswered s.Done = Unit {0}
-IsAnswered s.SomeErrors = Unit {0}
-IsAnswered s.Refused = Unit {0}
-IsAnswered other = ⊥
 
 ends_answered : (error : Bool) → IsAnswered (status_of error)
 ends_answered true = tt
@@ -90,19 +83,12 @@ reports_quiet codes script a h done errors = quiet_by a.report.status (told_by a
 
 -- ---- what is written of them
 
-delivers_by : (tells : Told → Type 0) (told : Told) (status : Status) (old new : Option (List ℕ)) → IsAnswered status → tells told → told.status ≡ status → Appends old new told.bytes
-    → Delivers tells status old new
-delivers_by tells told s.Done old new can h is appended = (told, h, is, appended)
-delivers_by tells told s.SomeErrors old new can h is appended = (told, h, is, appended)
-delivers_by tells told s.Refused old new can h is appended = (told, h, is, appended)
-delivers_by tells told s.ReadFault old new can h is appended = absurd can
-delivers_by tells told s.WriteFault old new can h is appended = absurd can
-delivers_by tells told s.NoMemory old new can h is appended = absurd can
-delivers_by tells told s.InputLong old new can h is appended = absurd can
-delivers_by tells told s.Usage old new can h is appended = absurd can
-delivers_by tells told s.FileFault old new can h is appended = absurd can
-delivers_by tells told s.FileAbsent old new can h is appended = absurd can
-delivers_by tells told s.FileLong old new can h is appended = absurd can
+-- what tells nothing of an input that is not read
+abbrev Never : List ℕ → Told → Type 0
+Never front told = ⊥
+
+abbrev NeverPast : List ℕ → Type 0
+NeverPast front = ⊥
 
 -- codes where there are none
 pub some_codes : ScriptCodes
@@ -115,14 +101,15 @@ ScriptReports codes script r told = TellsScript codes script told × Reports tol
 -- the codes of which a script's report tells, and what is delivered
 abbrev pub ScriptDelivers : List ℕ → Report → Option (List ℕ) → Option (List ℕ) → Type 0
 ScriptDelivers script r old new =
-    (codes : ScriptCodes) × (AreCodesOf script codes ⊎ EndsBefore r.status old new) × Delivers (λ told. TellsScript codes script told × Reports told r) r.status old new
+    (codes : ScriptCodes) × (AreCodesOf script codes ⊎ EndsBefore r.status old new) × DeliversUnread (λ told. TellsScript codes script told × Reports told r) r.status old new
 
 -- memory ran out before there was an answer
 pub no_answer : (script : List ℕ) (r : Report) (old : Option (List ℕ)) → r.status ≡ s.NoMemory → ScriptDelivers script r old old
 no_answer script r old is = (
   some_codes,
   inr (subst (λ (t : Status). EndsBefore t old old) (sym is) (nothing old)),
-  subst (λ (t : Status). Delivers (ScriptReports some_codes script r) t old old) (sym is) (λ told h. no_front old told.bytes),
+  subst (λ (t : Status). DeliversUnread (ScriptReports some_codes script r) t old old) (sym is)
+      (none_delivers (λ input. ScriptReports some_codes script r) Never NeverPast None None old),
 )
 
 module _ (codes : ScriptCodes) (script : List ℕ) (a : Answer) (old new : Option (List ℕ)) (are : AreCodesOf script codes) (tells : TellsScript codes script (told_by a)) where
@@ -131,7 +118,8 @@ module _ (codes : ScriptCodes) (script : List ℕ) (a : Answer) (old new : Optio
   answer_whole appended = (
     codes,
     inl are,
-    delivers_by (ScriptReports codes script a.report) (told_by a) a.report.status old new (answered codes script (told_by a) tells) (tells, reports codes script a tells) refl appended,
+    whole_delivers (λ input. ScriptReports codes script a.report) Never NeverPast (told_by a) (λ input. (tells, reports codes script a tells)) None None old new a.report.status
+        (answered codes script (told_by a) tells) refl appended,
   )
 
   -- the sink failed
@@ -139,18 +127,19 @@ module _ (codes : ScriptCodes) (script : List ℕ) (a : Answer) (old new : Optio
   answer_failed r is quiet front = (
     codes,
     inl are,
-    subst (λ (t : Status). Delivers (ScriptReports codes script r) t old new) (sym is)
-        (told_by a, (tells, subst (λ (t : Status). ReportsBy t (told_by a) r) (sym is) quiet), front),
+    subst (λ (t : Status). DeliversUnread (ScriptReports codes script r) t old new) (sym is)
+        (failed_delivers (λ input. ScriptReports codes script r) Never NeverPast (told_by a) (λ input. (tells, subst (λ (t : Status). ReportsBy t (told_by a) r) (sym is) quiet)) None None old new front),
   )
 
   -- memory ran out
-  pub answer_cut : (r : Report) → r.status ≡ s.NoMemory → ((x y : Told) → TellsScript codes script x → TellsScript codes script y → x ≡ y) → AppendsFront old new (string_bytes a.line)
+  pub answer_cut : (r : Report) → r.status ≡ s.NoMemory → IsQuiet r → ((x y : Told) → TellsScript codes script x → TellsScript codes script y → x ≡ y) → AppendsFront old new (string_bytes a.line)
       → ScriptDelivers script r old new
-  answer_cut r is once front = (
+  answer_cut r is quiet once front = (
     codes,
     inl are,
-    subst (λ (t : Status). Delivers (ScriptReports codes script r) t old new) (sym is)
-        (λ told h. subst (λ (t : Told). AppendsFront old new t.bytes) (once (told_by a) told tells h.0) front),
+    subst (λ (t : Status). DeliversUnread (ScriptReports codes script r) t old new) (sym is)
+        (cut_delivers (λ input. ScriptReports codes script r) Never NeverPast (told_by a) (λ input. (tells, subst (λ (t : Status). ReportsBy t (told_by a) r) (sym is) quiet)) None None old new
+        (λ input told h. once (told_by a) told tells h.0) front),
   )
 
 -- ---- files
@@ -160,7 +149,7 @@ FileReports codes found r told = TellsFile codes found told × Reports told r
 
 abbrev pub FileDelivers : Option (List ℕ) → Report → Option (List ℕ) → Option (List ℕ) → Type 0
 FileDelivers found r old new =
-    (codes : ScriptCodes) × (AreCodesIn found codes ⊎ EndsBefore r.status old new) × Delivers (λ told. TellsFile codes found told × Reports told r) r.status old new
+    (codes : ScriptCodes) × (AreCodesIn found codes ⊎ EndsBefore r.status old new) × DeliversUnread (λ told. TellsFile codes found told × Reports told r) r.status old new
 
 -- the file is short enough, and its script is told of
 pub delivers_script : (found : Option (List ℕ)) (script : List ℕ) (r : Report) (old new : Option (List ℕ)) → found ≡ Some script → length script ≤ file_limit
@@ -168,8 +157,9 @@ pub delivers_script : (found : Option (List ℕ)) (script : List ℕ) (r : Repor
 delivers_script found script r old new is short (codes, are, h) = (
   codes,
   in_file are,
-  subst (λ (f : Option (List ℕ)). Delivers (FileReports codes f r) r.status old new) (sym is)
-      (delivers_same (ScriptReports codes script r) (FileReports codes (Some script) r) (λ told k. (inr (short, k.0), k.1)) (λ told k. (back told k.0, k.1)) r.status old new h),
+  subst (λ (f : Option (List ℕ)). DeliversUnread (FileReports codes f r) r.status old new) (sym is)
+      (delivers_same (λ input. ScriptReports codes script r) (λ input. FileReports codes (Some script) r) Never NeverPast (λ input told k. (inr (short, k.0), k.1)) (λ input told k. (back told k.0, k.1))
+      None None old new r.status h),
 ) where
   back : (told : Told) → TellsFile codes (Some script) told → TellsScript codes script told
   back told (inl (long, k)) = absurd (omega arith)
@@ -184,15 +174,11 @@ pub absent_told : (found : Option (List ℕ)) (r : Report) (old : Option (List �
 absent_told found r old none is quiet = (
   some_codes,
   inl (subst (λ (f : Option (List ℕ)). AreCodesIn f some_codes) (sym none) tt),
-  subst (λ (t : Status). Delivers (FileReports some_codes found r) t old old) (sym is) (
-    silent s.FileAbsent,
-    (
-      subst (λ (f : Option (List ℕ)). TellsFile some_codes f (silent s.FileAbsent)) (sym none) refl,
-      subst (λ (t : Status). ReportsBy t (silent s.FileAbsent) r) (sym is) quiet,
-    ),
-    refl,
-    nothing old,
-  ),
+  subst (λ (t : Status). DeliversUnread (FileReports some_codes found r) t old old) (sym is)
+      (absent_delivers (λ input. FileReports some_codes found r) Never NeverPast None None old (λ input. (
+        subst (λ (f : Option (List ℕ)). TellsFile some_codes f (silent s.FileAbsent)) (sym none) refl,
+        subst (λ (t : Status). ReportsBy t (silent s.FileAbsent) r) (sym is) quiet,
+      ))),
 )
 
 -- .. nor of one that is too long
@@ -201,15 +187,11 @@ pub long_told : (found : Option (List ℕ)) (bytes : List ℕ) (r : Report) (old
 long_told found bytes r old some long is quiet = (
   some_codes,
   inl (subst (λ (f : Option (List ℕ)). AreCodesIn f some_codes) (sym some) (λ within. absurd (omega arith))),
-  subst (λ (t : Status). Delivers (FileReports some_codes found r) t old old) (sym is) (
-    silent s.FileLong,
-    (
-      subst (λ (f : Option (List ℕ)). TellsFile some_codes f (silent s.FileLong)) (sym some) (inl (long, refl)),
-      subst (λ (t : Status). ReportsBy t (silent s.FileLong) r) (sym is) quiet,
-    ),
-    refl,
-    nothing old,
-  ),
+  subst (λ (t : Status). DeliversUnread (FileReports some_codes found r) t old old) (sym is)
+      (long_delivers (λ input. FileReports some_codes found r) Never NeverPast None None old (λ input. (
+        subst (λ (f : Option (List ℕ)). TellsFile some_codes f (silent s.FileLong)) (sym some) (inl (long, refl)),
+        subst (λ (t : Status). ReportsBy t (silent s.FileLong) r) (sym is) quiet,
+      ))),
 )
 
 -- the files failed, or memory, before anything was read
@@ -217,12 +199,12 @@ pub file_failed : (found : Option (List ℕ)) (r : Report) (old : Option (List �
 file_failed found r old is = (
   some_codes,
   inr (subst (λ (t : Status). EndsBefore t old old) (sym is) (nothing old)),
-  subst (λ (t : Status). Delivers (FileReports some_codes found r) t old old) (sym is) (nothing old),
+  subst (λ (t : Status). DeliversUnread (FileReports some_codes found r) t old old) (sym is) (nothing old),
 )
 
 pub file_unread : (found : Option (List ℕ)) (r : Report) (old : Option (List ℕ)) → r.status ≡ s.NoMemory → FileDelivers found r old old
 file_unread found r old is = (
   some_codes,
   inr (subst (λ (t : Status). EndsBefore t old old) (sym is) (nothing old)),
-  subst (λ (t : Status). Delivers (FileReports some_codes found r) t old old) (sym is) (λ told h. no_front old told.bytes),
+  subst (λ (t : Status). DeliversUnread (FileReports some_codes found r) t old old) (sym is) (none_delivers (λ input. FileReports some_codes found r) Never NeverPast None None old),
 )

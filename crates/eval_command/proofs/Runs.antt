@@ -97,8 +97,8 @@ limit_again which.Room = refl
 
 pub reply_seen : (end : left_end.End) (w : World) → reply_to (end_seen end w) ≡ reply_of end w.store.objects
 reply_seen (l.Value value) w = refl
-reply_seen (l.Thrown id) w = refl
-reply_seen (l.Limit which) w = ap (λ x. reply_of (l.Limit x) w.store.objects) (limit_again which)
+reply_seen (l.Thrown id place) w = refl
+reply_seen (l.Limit which place) w = ap (λ x. reply_of (l.Limit x place) w.store.objects) (limit_again which)
 
 -- ---- answers
 

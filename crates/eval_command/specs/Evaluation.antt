@@ -24,8 +24,8 @@ which_of Room = which.Room
 -- the reply to an end
 abbrev pub reply_to : End Value → Data
 reply_to (Gives value w) = reply_of (e.Value value) w.store.objects
-reply_to (Uncaught id w) = reply_of (e.Thrown id) w.store.objects
-reply_to (Limited limit w) = reply_of (e.Limit (which_of limit)) w.store.objects
+reply_to (Uncaught id place w) = reply_of (e.Thrown id place) w.store.objects
+reply_to (Limited limit place w) = reply_of (e.Limit (which_of limit) place) w.store.objects
 
 abbrev pub status_of : Bool → Status
 status_of error = if error then s.SomeErrors else s.Done

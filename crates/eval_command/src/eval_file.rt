@@ -1,15 +1,16 @@
 //! From a file's name to what is written.
 
-ghost use Rattle.std.specs.Prelude.{◌≡◌, ◌≢◌, ◌⊎◌, ℕ, List, [], ◌∷◌, Option, IfSome, length, ◌≤◌};
-ghost use Rattle.outer_io.specs.Asking.{AsksFront};
+ghost use Rattle.std.specs.Prelude.{◌≡◌, ◌≢◌, ◌⊎◌, length, ◌≤◌};
 ghost use Rattle.outer_io.specs.Faults.{next_count};
 ghost use Rattle.script_engine.specs.Codes.{ScriptCodes};
 ghost use Rattle.command_parts.specs.Before.{EndsBefore};
-ghost use Rattle.command_parts.specs.Delivers.{Delivers};
+ghost use Rattle.command_parts.specs.DeliversOver.{DeliversUnread};
+ghost use Rattle.command_parts.specs.Ends.{EndsAsTold, NoInput, of_files};
 ghost use Rattle.command_parts.specs.Reports.{IsQuiet, Reports};
 ghost use Rattle.command_parts.specs.Told.{file_limit};
-ghost use Rattle.eval_command.specs.Codes.{AreCodesIn, AreCodesOf};
-ghost use Rattle.eval_command.specs.Evaluation.{TellsFile, TellsScript};
+ghost use Rattle.eval_command.specs.Codes.{AreCodesOf};
+ghost use Rattle.eval_command.specs.Evaluation.{TellsScript};
+ghost use Rattle.eval_command.specs.Tellings.{eval_telling};
 
 use crate::reply::{Answer, answer_to};
 use command_parts::{FILE_LIMIT, Report, Status};
@@ -17,23 +18,12 @@ use outer_io::{FileErr, Files, Found, Sink, SinkErr, give_all};
 use script_engine::{code_laws, script_laws};
 use std::alloc::Global;
 
-/// Runs the script that stands in the file of a name. With status 0 or 1 the report has the listing of its code, that of the prelude's, and
+/// Runs the script that stands in the file of a name, the only one that is asked for. With status 0 or 1 the report has the listing of its code, that of the prelude's, and
 /// how many instructions were run.
 pub fn eval<F: Files, K: Sink>(alloc: Global, name: &str, files: &mut F, out: &mut K) -> Report
-    // There are codes of the script of which this is told; or it ended before there were any, and nothing was written.
-    ensures told { (content : List ℕ → Option (List ℕ)) × IfSome (F.content files.old) (λ known. known ≡ content)
-        × (codes : ScriptCodes) × (AreCodesIn (content name.now) codes ⊎ EndsBefore result.status (K.held out.old) (K.held out.new))
-        × Delivers (λ told. TellsFile codes (content name.now) told × Reports told result) result.status (K.held out.old) (K.held out.new) }
-    ensures quiet { result.status ≢ Status.Done → result.status ≢ Status.SomeErrors → IsQuiet result }
-    ensures command { result.status ≢ Status.Usage }
-    ensures reads { result.status ≢ Status.ReadFault }
-    ensures write { result.status ≡ Status.WriteFault → K.faults out.new ≡ next_count (K.faults out.old) }
-    ensures file { result.status ≡ Status.FileFault → F.faults files.new ≡ next_count (F.faults files.old) }
-    ensures written { result.status ≢ Status.WriteFault → K.faults out.new ≡ K.faults out.old }
-    ensures filed { result.status ≢ Status.FileFault → F.faults files.new ≡ F.faults files.old }
-    ensures contents { F.content files.new ≡ F.content files.old }
-    // No other file is asked for.
-    ensures asks { AsksFront (F.asked files.old) (F.asked files.new) (name.now ∷ []) }
+    ensures ends { EndsAsTold (eval_telling name.now)
+        (of_files (F.content files.old) (F.asked files.old) (F.faults files.old) (K.held out.old) (K.faults out.old))
+        (of_files (F.content files.new) (F.asked files.new) (F.faults files.new) (K.held out.new) (K.faults out.new)) NoInput result }
 {
     match files.read(alloc, name, FILE_LIMIT) {
         Ok(Found::Bytes(script)) => write_answer(alloc, script.as_slice(), out),
@@ -48,7 +38,7 @@ pub fn eval<F: Files, K: Sink>(alloc: Global, name: &str, files: &mut F, out: &m
 fn write_answer<K: Sink>(alloc: Global, script: &[u8], out: &mut K) -> Report
     requires { length script.now ≤ file_limit }
     ensures told { (codes : ScriptCodes) × (AreCodesOf script.now codes ⊎ EndsBefore result.status (K.held out.old) (K.held out.new))
-        × Delivers (λ told. TellsScript codes script.now told × Reports told result) result.status (K.held out.old) (K.held out.new) }
+        × DeliversUnread (λ told. TellsScript codes script.now told × Reports told result) result.status (K.held out.old) (K.held out.new) }
     ensures quiet { result.status ≢ Status.Done → result.status ≢ Status.SomeErrors → IsQuiet result }
     ensures command { result.status ≢ Status.Usage }
     ensures found { (result.status ≢ Status.FileFault) × (result.status ≢ Status.FileAbsent) × (result.status ≢ Status.FileLong) }

@@ -4,8 +4,8 @@ use Rattle.std.specs.Prelude.{◌==◌, ◌&&◌, Bool, true, false, IfSome, sli
 use Rattle.std.proofs.lemmas.Option.{get_or_from_slice_get}
 use Rattle.allowlist.specs.declared.member.MemberType.{MemberType}
 use Rattle.allowlist.specs.Catalogue.{catalogue, constructor}
-use Rattle.allowlist.specs.Allow.{AllowList, member_of}
-use Rattle.allowlist.specs.Index.{member_at}
+use Rattle.allowlist.specs.Allow.{AllowList, member_of, members_in}
+use Rattle.allowlist.specs.Index.{member_at, member_in}
 use Rattle.allowlist.proofs.Unique.{all_in_list}
 use Rattle.pl_types.specs.Names.{class_of_full}
 use Rattle.pl_code.specs.declared.kinds.Slot.{Slot}
@@ -19,19 +19,19 @@ use Rattle.instruction_types.specs.Effects.{Exchanges, one, invokes, makes, read
 pub at_number : (number : ℕ) (m : MemberType) → slice_get catalogue number ≡ Some m → member_at number ≡ m
 at_number number m h = get_or_from_slice_get catalogue number m (constructor 0 []) h
 
-pub invoked : (number : ℕ) (m : MemberType) (takes : List Slot) (kind : Slot) → slice_get catalogue number ≡ Some m
-    → takes ≡ argument_kinds m.params ++ (if has_receiver m.kind then R ∷ [] else []) → kind ≡ kind_of_type m.result → Exchanges takes (one kind) ≡ invokes number
+pub invoked : (allow : AllowList) (number : ℕ) (m : MemberType) (takes : List Slot) (kind : Slot) → slice_get (members_in allow) number ≡ Some m
+    → takes ≡ argument_kinds m.params ++ (if has_receiver m.kind then R ∷ [] else []) → kind ≡ kind_of_type m.result → Exchanges takes (one kind) ≡ invokes allow number
 unfolding invokes member_takes
-invoked number m takes kind h t k =
+invoked allow number m takes kind h t k =
     (λ i. Exchanges (t i) (one (k i))) ∙ sym (ap (λ m. Exchanges (member_takes m) (one (kind_of_type m.result))) (at_number number m h))
 
-pub made : (number : ℕ) (m : MemberType) → slice_get catalogue number ≡ Some m → Exchanges (argument_kinds m.params) (one R) ≡ makes number
+pub made : (allow : AllowList) (number : ℕ) (m : MemberType) → slice_get (members_in allow) number ≡ Some m → Exchanges (argument_kinds m.params) (one R) ≡ makes allow number
 unfolding makes
-made number m h = sym (ap (λ m. Exchanges (argument_kinds m.params) (one R)) (at_number number m h))
+made allow number m h = sym (ap (λ m. Exchanges (argument_kinds m.params) (one R)) (at_number number m h))
 
-pub was_read : (number : ℕ) (m : MemberType) (kind : Slot) → slice_get catalogue number ≡ Some m → kind ≡ kind_of_type m.result → Exchanges [] (one kind) ≡ reads number
+pub was_read : (allow : AllowList) (number : ℕ) (m : MemberType) (kind : Slot) → slice_get (members_in allow) number ≡ Some m → kind ≡ kind_of_type m.result → Exchanges [] (one kind) ≡ reads allow number
 unfolding reads
-was_read number m kind h k = ap (λ k. Exchanges [] (one k)) k ∙ sym (ap (λ m. Exchanges [] (one (kind_of_type m.result))) (at_number number m h))
+was_read allow number m kind h k = ap (λ k. Exchanges [] (one k)) k ∙ sym (ap (λ m. Exchanges [] (one (kind_of_type m.result))) (at_number number m h))
 
 -- the first part of two lists joined, and the other
 
@@ -57,9 +57,9 @@ module _ (allow : AllowList) where
   if_sought number true h = h
   if_sought number false h = tt
 
-  own_listed : (s : Sought) (class : ℕ) (found : Option ℕ) → IsListed found → IsListed (option_and_then (own_sought s class) found)
+  own_listed : (s : Sought) (class : ℕ) (found : Option ℕ) → IsListed found → IsListed (option_and_then (own_sought allow s class) found)
   own_listed s class None h = tt
-  own_listed s class (Some number) h = if_sought number (((member_at number).owner == class) && is_sought s (member_at number).kind) h
+  own_listed s class (Some number) h = if_sought number (((member_in allow number).owner == class) && is_sought s (member_in allow number).kind) h
 
   named_listed : (s : Sought) (name : List ℕ) (arity : ℕ) (class : Option ℕ) → IsListed (option_and_then (own_named allow s name arity) class)
   unfolding own_named

@@ -22,7 +22,7 @@ use Rattle.pl_code.specs.declared.code.FunCode.{FunCode}
 use Rattle.pl_code.specs.declared.code.Instruction.{Instruction}
 use Rattle.pl_code.specs.declared.code.Instruction.TheVariants as code
 use Rattle.allowlist.specs.Allow.{AllowList}
-use Rattle.allowlist.specs.Index.{member_at}
+use Rattle.allowlist.specs.Index.{member_in}
 use Rattle.instruction_types.specs.declared.copying.Copying.{Copying}
 use Rattle.instruction_types.specs.declared.copying.Copying.TheVariants as copying
 use Rattle.instruction_types.specs.declared.flow.Flow.{Flow}
@@ -189,14 +189,14 @@ sized_effect sized.Filled k n = Exchanges (replicate n k) (one R)
 sized_effect sized.Empty k n = Exchanges (replicate n I) (one R)
 
 -- a method that gives nothing leaves null
-unfoldable pub invokes : ℕ → Effect
-invokes member = Exchanges (member_takes (member_at member)) (one (kind_of_type (member_at member).result))
+unfoldable pub invokes : AllowList → ℕ → Effect
+invokes allow member = Exchanges (member_takes (member_in allow member)) (one (kind_of_type (member_in allow member).result))
 
-unfoldable pub makes : ℕ → Effect
-makes member = Exchanges (argument_kinds (member_at member).params) (one R)
+unfoldable pub makes : AllowList → ℕ → Effect
+makes allow member = Exchanges (argument_kinds (member_in allow member).params) (one R)
 
-unfoldable pub reads : ℕ → Effect
-reads member = Exchanges [] (one (kind_of_type (member_at member).result))
+unfoldable pub reads : AllowList → ℕ → Effect
+reads allow member = Exchanges [] (one (kind_of_type (member_in allow member).result))
 
 -- The effect of an instruction of a function; nothing where what it names is not there.
 unfoldable pub effect_of : AllowList → List FunCode → FunCode → Instruction → Option Effect
@@ -213,9 +213,9 @@ effect_of allow functions f (code.Cast ty way) = Some (Exchanges (one R) (one R)
 effect_of allow functions f (code.Typed t ty) = Some (typed_effect t (kind_of_text ty))
 effect_of allow functions f (code.Sized s ty n) = Some (sized_effect s (kind_of_text ty) n)
 effect_of allow functions f (code.DefCall word n) = Some (Exchanges (replicate (n + 1) R) (one R))
-effect_of allow functions f (code.Invoke m) = option_map invokes (method_of allow m)
-effect_of allow functions f (code.New m) = option_map makes (constructor_of allow m)
-effect_of allow functions f (code.Field m) = option_map reads (field_of allow m)
+effect_of allow functions f (code.Invoke m) = option_map (invokes allow) (method_of allow m)
+effect_of allow functions f (code.New m) = option_map (makes allow) (constructor_of allow m)
+effect_of allow functions f (code.Field m) = option_map (reads allow) (field_of allow m)
 effect_of allow functions f (code.Lambda interface function n) = Some (Exchanges (replicate n R) (one R))
 effect_of allow functions f (code.Ref interface ty word) = Some (Exchanges [] (one R))
 effect_of allow functions f (code.NewRef interface ty) = Some (Exchanges [] (one R))

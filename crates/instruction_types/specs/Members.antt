@@ -9,7 +9,7 @@ use Rattle.allowlist.specs.declared.member.MemberKind.{MemberKind}
 use Rattle.allowlist.specs.declared.member.MemberKind.TheVariants.{Constructor, Static, Instance, Field}
 use Rattle.allowlist.specs.declared.member.MemberType.{MemberType}
 use Rattle.allowlist.specs.Allow.{AllowList, member_of}
-use Rattle.allowlist.specs.Index.{member_at}
+use Rattle.allowlist.specs.Index.{member_in}
 use Rattle.pl_code.specs.declared.kinds.Slot.{Slot}
 use Rattle.pl_code.specs.declared.kinds.Slot.TheVariants.{R}
 use Rattle.instruction_types.specs.declared.members.Sought.{Sought}
@@ -47,11 +47,11 @@ is_sought sought.Read Field = true
 is_sought s kind = false
 
 -- A member counts where it is the class's own, and is looked for.
-abbrev pub own_sought : Sought → ℕ → ℕ → Option ℕ
-own_sought s class number = if ((member_at number).owner == class) && is_sought s (member_at number).kind then Some number else None
+abbrev pub own_sought : AllowList → Sought → ℕ → ℕ → Option ℕ
+own_sought allow s class number = if ((member_in allow number).owner == class) && is_sought s (member_in allow number).kind then Some number else None
 
 unfoldable pub own_named : AllowList → Sought → List ℕ → ℕ → ℕ → Option ℕ
-own_named allow s name arity class = option_and_then (own_sought s class) (member_of allow class name arity)
+own_named allow s name arity class = option_and_then (own_sought allow s class) (member_of allow class name arity)
 
 -- the member that a list allows of the class with a full name, itself its owner
 unfoldable pub member_named : AllowList → Sought → List ℕ → List ℕ → ℕ → Option ℕ

@@ -300,7 +300,7 @@ fn arguments(kind: MemberKind, params: &[Ty]) -> Takes<'_>
 #[tactic(auto, unfolding(crate::specs::Seen::seen_action))]
 fn invokes(allow: &Allow, member: u32) -> Action<'_>
     requires { member < length allow.now.members }
-    ensures { seen_action result ≡ invokes member }
+    ensures { seen_action result ≡ invokes allow.now member }
 {
     let called = allow.member_type(member);
     let takes = arguments(called.kind, called.params.as_slice());
@@ -311,7 +311,7 @@ fn invokes(allow: &Allow, member: u32) -> Action<'_>
 #[tactic(auto, unfolding(crate::specs::Seen::seen_action, crate::specs::Seen::seen_takes))]
 fn makes(allow: &Allow, member: u32) -> Action<'_>
     requires { member < length allow.now.members }
-    ensures { seen_action result ≡ makes member }
+    ensures { seen_action result ≡ makes allow.now member }
 {
     let made = allow.member_type(member);
     Action::Exchanges(Takes::Arguments(made.params.as_slice()), Some(Slot::R))
@@ -319,14 +319,14 @@ fn makes(allow: &Allow, member: u32) -> Action<'_>
 
 fn reads(allow: &Allow, member: u32) -> Action<'_>
     requires { member < length allow.now.members }
-    ensures { seen_action result ≡ reads member }
+    ensures { seen_action result ≡ reads allow.now member }
 {
     let read = allow.member_type(member);
     puts(kind_of_type(&read.result))
 }
 
 fn invoke_action<'a>(allow: &'a Allow, method: &MethodName) -> Option<Action<'a>>
-    ensures { option_map seen_action result ≡ option_map invokes (method_of allow.now method.now) }
+    ensures { option_map seen_action result ≡ option_map (invokes allow.now) (method_of allow.now method.now) }
 {
     match method_of(allow, method) {
         None => None,
@@ -335,7 +335,7 @@ fn invoke_action<'a>(allow: &'a Allow, method: &MethodName) -> Option<Action<'a>
 }
 
 fn new_action<'a>(allow: &'a Allow, constructor: &ConstructorName) -> Option<Action<'a>>
-    ensures { option_map seen_action result ≡ option_map makes (constructor_of allow.now constructor.now) }
+    ensures { option_map seen_action result ≡ option_map (makes allow.now) (constructor_of allow.now constructor.now) }
 {
     match constructor_of(allow, constructor) {
         None => None,
@@ -344,7 +344,7 @@ fn new_action<'a>(allow: &'a Allow, constructor: &ConstructorName) -> Option<Act
 }
 
 fn field_action<'a>(allow: &'a Allow, field: &FieldName) -> Option<Action<'a>>
-    ensures { option_map seen_action result ≡ option_map reads (field_of allow.now field.now) }
+    ensures { option_map seen_action result ≡ option_map (reads allow.now) (field_of allow.now field.now) }
 {
     match field_of(allow, field) {
         None => None,

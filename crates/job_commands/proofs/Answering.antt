@@ -1,25 +1,28 @@
 -- The answers of the code are those of the definition, and each document has one.
 use Rattle.std.proofs.Common.{◌≡◌, ℕ, List, [], ◌∷◌, Some, Result, Ok, Err, refl, sym, ap, ◌∙◌, subst}
-use Rattle.typed_tree.specs.declared.program.Program.{Program}
-use Rattle.script_engine.specs.Codes.{IsListed, ScriptCodes, empty_program, script_codes}
-use Rattle.script_engine.specs.Compiling.{IsScriptOf}
+use Rattle.script_engine.specs.Codes.{ScriptCodes}
 use Rattle.script_engine.specs.Laws.{ProgramsEnd, ProgramsEndOnce, CodesCountOnce, ListedCodesCount}
-use Rattle.script_engine.specs.Programs.{IsProgramOf}
+use Rattle.job_file.specs.Answers.{job_view}
+use Rattle.job_file.specs.declared.context.JobContext.TheVariants as c
 use Rattle.search_ctx.specs.declared.line.SearchKind.TheVariants as k
-use Rattle.search_ctx.specs.Lines.{Start, Fault}
+use Rattle.document_replies.specs.Starts.{Start, Fault}
 use Rattle.document_replies.specs.declared.job.DocumentJob.{DocumentJob}
-use Rattle.document_replies.specs.Jobs.{HasArguments, by_start, documents_of}
-use Rattle.document_replies.specs.Replies.{Documents, Ended}
+use Rattle.document_replies.specs.declared.search.SearchContext.{SearchContext}
+use Rattle.document_replies.specs.Jobs.{by_start}
+use Rattle.document_replies.specs.Replies.{Ended}
+use Rattle.document_replies.specs.Searches.{Documents, HasArguments, documents_of}
 use Rattle.document_replies.proofs.Arguments.{bound_takes, start_takes}
-use Rattle.job_loading.specs.Seen.{read_view}
-use Rattle.job_commands.specs.Contexts.{kind_of, types_of}
-use Rattle.job_commands.specs.Documents.{IsDocumentJob, documents_for, limited}
-use Rattle.job_commands.specs.Preparing.{EndsAsItsProgram, with_program}
-use Rattle.job_commands.specs.Running.{EndsOver, documents_in}
-use Rattle.job_commands.specs.Scripts.{Prepared, script_of}
+use Rattle.job_commands.specs.Contexts.{documents_in}
+use Rattle.job_commands.specs.Documents.{IsDocumentJob, limited}
+use Rattle.job_commands.specs.Listing.{AreCodesOf}
+use Rattle.job_commands.specs.Preparing.{AreJobScripts, EndsAsItsProgram, codes_of, with_programs}
+use Rattle.job_commands.specs.Running.{EndsOver}
+use Rattle.job_commands.specs.Scripts.{JobPrograms, Prepared}
 use Rattle.job_commands.specs.declared.preparing.PreparedJob.{PreparedJob}
 use Rattle.job_commands.specs.declared.script.LimitedScript.{LimitedScript}
+use Rattle.job_commands.proofs.Jobs.{HasProgram}
 use Rattle.job_commands.proofs.Replies.{ends_over, over_once, over_some}
+use Rattle.job_commands.proofs.Typed.{field_takes}
 use Rattle.job_commands.specs.declared.answer.Answer.{Answer}
 use Rattle.job_commands.specs.declared.tally.Tally.{Tally}
 use Rattle.job_commands.specs.Answers.{answer_of, no_answer, IsAnswer, IsAnswerTo, IsAnswerOf, AreAnswers, start_over}
@@ -63,32 +66,35 @@ answer_to : (Code Means : Start → Ended → Type 0) (bound : Result Start Faul
 answer_to Code Means (Err wrong) answer to is = is
 answer_to Code Means (Ok start) answer to (ran, ends, is) = (ran, to start refl ran ends, is)
 
-pub answers_mean : (job : PreparedJob) (p : Program) → IsScriptOf (read_view job.found).allow (types_of job.found.job.context) p job.script → kind_of job.found.job.context ≡ Some k.Field
-    → (x : ℕ) (answer : Answer) → GivesAnswers job x answer → IsAnswerOf (with_program job p) (script_codes job.script) x answer
-answers_mean job p is of x answer gives =
-    answer_to (by_start (EndsAsItsProgram (limited job))) (EndsOver (with_program job p) (script_codes job.script)) (start_over (documents_for k.Field job) x) answer
-    (λ start bound ran ends. ends_over job p k.Field is of start ran (over_takes (documents_for k.Field job) x start bound) ends) gives
+pub answers_mean : (job : PreparedJob) (programs : JobPrograms) → AreJobScripts job programs → job.found.job.context ≡ c.Field → (x : ℕ) (answer : Answer) → GivesAnswers job x answer
+    → IsAnswerOf (with_programs job programs) (codes_of job.scripts) x answer
+answers_mean job programs scripts of x answer gives =
+    let documents = documents_in k.Field (job_view job.found.job) in
+    answer_to (by_start (EndsAsItsProgram (limited job))) (EndsOver (with_programs job programs) (codes_of job.scripts)) (start_over documents x) answer
+    (λ start bound ran ends.
+    ends_over job programs scripts start ran (field_takes job.found.job.context programs.first.key start.args of (over_takes documents x start bound)) ends) gives
 
 -- the answers of what replies to the documents are those of its job
-pub tally_so : (job : PreparedJob) (d : DocumentJob LimitedScript) → IsDocumentJob k.Field job d → (count : ℕ) (t : Tally)
-    → IsTally (IsAnswer (documents_of d.settings) (by_start (EndsAsItsProgram d.script))) count t → IsTally (GivesAnswers job) count t
-tally_so job d (documents, script) count t h =
-    subst (λ (x : Documents). IsTally (IsAnswer x (by_start (EndsAsItsProgram (limited job)))) count t) documents
-    (subst (λ (s : LimitedScript). IsTally (IsAnswer (documents_of d.settings) (by_start (EndsAsItsProgram s))) count t) script h)
+pub tally_so : (context : SearchContext) (job : PreparedJob) (d : DocumentJob SearchContext LimitedScript) → IsDocumentJob context job d
+    → documents_of context ≡ documents_in k.Field (job_view job.found.job) → (count : ℕ) (t : Tally) → IsTally (IsAnswer (documents_of d.context) (by_start (EndsAsItsProgram d.script))) count t → IsTally (GivesAnswers job) count t
+tally_so context job d is documents count t h =
+    subst (λ (x : Documents). IsTally (IsAnswer x (by_start (EndsAsItsProgram (limited job)))) count t) (ap documents_of is.0 ∙ documents)
+    (subst (λ (s : LimitedScript). IsTally (IsAnswer (documents_of d.context) (by_start (EndsAsItsProgram s))) count t) is.2 h)
 
-module _ (ends : ProgramsEndOnce) (counts : CodesCountOnce) (p : Prepared) (codes : ScriptCodes) where
+module _ (ends : ProgramsEndOnce) (counts : CodesCountOnce) (p : Prepared) (codes : List ScriptCodes) where
   to_once : (bound : Result Start Fault) (a b : Answer) → IsAnswerTo (EndsOver p codes) bound a → IsAnswerTo (EndsOver p codes) bound b → a ≡ b
   to_once (Err wrong) a b h k = h ∙ sym k
   to_once (Ok start) a b (ran, ended, is) (other, ended', at) = is ∙ ap answer_of (over_once ends counts p codes start ran other ended ended') ∙ sym at
 
   pub answer_once : (x : ℕ) (a b : Answer) → IsAnswerOf p codes x a → IsAnswerOf p codes x b → a ≡ b
-  answer_once x = to_once (start_over (documents_in k.Field p) x)
+  answer_once x = to_once (start_over (documents_in k.Field p.under.job) x)
 
-module _ (ends : ProgramsEnd) (counted : ListedCodesCount) (p : Prepared) (codes : ScriptCodes) (of : kind_of p.under.job.context ≡ Some k.Field)
-    (is : IsProgramOf p.under.allow (types_of p.under.job.context) (script_of p.under) (Ok p.program)) (listed : IsListed p.under.allow (types_of p.under.job.context) p.program empty_program codes) where
+module _ (ends : ProgramsEnd) (counted : ListedCodesCount) (p : Prepared) (codes : List ScriptCodes) (of : p.under.job.context ≡ c.Field) (has : HasProgram p) (are : AreCodesOf p codes) where
   to_some : (bound : Result Start Fault) → ((start : Start) → bound ≡ Ok start → HasArguments k.Field start.args) → (answer : Answer) × IsAnswerTo (EndsOver p codes) bound answer
-  to_some (Err wrong) has = (no_answer, refl)
-  to_some (Ok start) has = let ran = over_some ends counted k.Field p codes of is listed start (has start refl) in (answer_of ran.0, (ran.0, ran.1, refl))
+  to_some (Err wrong) all = (no_answer, refl)
+  to_some (Ok start) all =
+      let ran = over_some ends counted p has codes are start (field_takes p.under.job.context p.programs.first.key start.args of (all start refl)) in
+      (answer_of ran.0, (ran.0, ran.1, refl))
 
   pub answer_some : (x : ℕ) → (answer : Answer) × IsAnswerOf p codes x answer
-  answer_some x = to_some (start_over (documents_in k.Field p) x) (λ start bound. over_takes (documents_in k.Field p) x start bound)
+  answer_some x = to_some (start_over (documents_in k.Field p.under.job) x) (λ start bound. over_takes (documents_in k.Field p.under.job) x start bound)

@@ -1,6 +1,10 @@
 pub mod Typed
 pub mod Replies
+pub mod Jobs
+pub mod Listings
 pub mod Telling
+pub mod RunTelling
+pub mod RunEnds
 pub mod Compiled
 pub mod Statuses
 pub mod Lines
@@ -8,4 +12,5 @@ pub mod Tallying
 pub mod Answering
 pub mod FixedJobs
 pub mod GeneratedTelling
+pub mod GeneratedEnds
 pub mod Starting

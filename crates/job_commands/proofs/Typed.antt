@@ -1,5 +1,6 @@
--- The contexts are contexts, and the arguments of a kind are of their types.
-use Rattle.std.proofs.Common.{◌≡◌, ◌≢◌, ℕ, List, Option, Some, None, codes, get_or, length, map, refl, sym, ap, subst, arith}
+-- The contexts are contexts, and the arguments of what their lines are bound to are of the types of their variables.
+use Rattle.std.proofs.Common.{◌≡◌, ◌≢◌, ℕ, List, Some, Ok, codes, get_or, length, map, refl, sym, ap, subst, arith}
+use Rattle.std.proofs.lemmas.Option.{none-some, same_Some}
 use Rattle.pl_types.specs.declared.ty.Ty.{out-Ty}
 use Rattle.pl_types.specs.declared.ty.Ty.TheVariants as t
 use Rattle.pl_types.specs.declared.primitive.Primitive.TheVariants as prim
@@ -13,8 +14,13 @@ use Rattle.script_engine.proofs.Types.{built_named, def_built, prim_built}
 use Rattle.search_ctx.specs.declared.line.SearchKind.{SearchKind}
 use Rattle.search_ctx.specs.declared.line.SearchKind.TheVariants as k
 use Rattle.job_file.specs.declared.context.JobContext.{JobContext}
-use Rattle.document_replies.specs.Jobs.{HasArguments}
-use Rattle.job_commands.specs.Contexts.{kind_of, search_types, types_by, types_of}
+use Rattle.job_file.specs.declared.context.JobContext.TheVariants as c
+use Rattle.job_file.specs.Jobs.{JobData}
+use Rattle.document_replies.specs.Replies.{Context}
+use Rattle.document_replies.specs.Searches.{HasArguments, search_context as search_of}
+use Rattle.document_replies.specs.Starts.{Start}
+use Rattle.document_replies.proofs.Starts.{documents_take}
+use Rattle.job_commands.specs.Contexts.{context_in, documents_in, keys_in, own_types, row_of, search_types, types_of}
 
 params_no_doc : codes "params" ≢ codes "doc"
 params_no_doc e = let n : 6 ≡ 3 = ap length e in omega (arith, n)
@@ -35,14 +41,23 @@ search_context k.Score = record {
 }
 search_context k.Field = record { distinct = ((params_no_doc, tt), (tt, tt)); present = (tt, (tt, tt)); result = built_named t.Def def_built }
 
-pub kind_context : (kind : Option SearchKind) → IsContext (types_by kind)
+own_context : IsContext own_types
 unfolding out-Ty denote.Hole.Carrier.out
-kind_context None = record { distinct = tt; present = tt; result = built_named t.Def def_built }
-kind_context (Some kind) = search_context kind
+own_context = record { distinct = tt; present = tt; result = built_named t.Def def_built }
 
--- where it is that of a kind
-pub context_so : (kind : Option SearchKind) (context : ContextTypes) → context ≡ types_by kind → IsContext context
-context_so kind context is = subst IsContext (sym is) (kind_context kind)
+-- each context gives its scripts one
+pub row_context : (context : JobContext) (key : List ℕ) → IsContext (types_of context key)
+row_context c.Eval key = own_context
+row_context c.Filter key = search_context k.Filter
+row_context c.Score key = search_context k.Score
+row_context c.Field key = search_context k.Field
+row_context c.Update key = own_context
+row_context c.Ingest key = own_context
+row_context c.Metric key = own_context
+
+-- where it is that of a context for a key
+pub context_so : (context : JobContext) (key : List ℕ) (types : ContextTypes) → types ≡ types_of context key → IsContext types
+context_so context key types is = subst IsContext (sym is) (row_context context key)
 
 pub has_types : (kind : SearchKind) (args : List Value) → HasArguments kind args → HaveAll (types_in (map variable_of (search_types kind).variables)) args
 unfolding out-Ty denote.Hole.Carrier.out
@@ -50,8 +65,32 @@ has_types k.Filter args (params, doc, is) = subst (HaveAll (types_in (map variab
 has_types k.Score args (params, doc, score, is) = subst (HaveAll (types_in (map variable_of (search_types k.Score).variables))) (sym is) (tt, (tt, ((score, refl), tt)))
 has_types k.Field args (params, doc, is) = subst (HaveAll (types_in (map variable_of (search_types k.Field).variables))) (sym is) (tt, (tt, tt))
 
--- by the context of the job
-pub has_all : (context : JobContext) (kind : SearchKind) (args : List Value) → kind_of context ≡ Some kind → HasArguments kind args
-    → HaveAll (types_in (map variable_of (types_of context).variables)) args
-has_all context kind args is has =
-    subst (λ (k : Option SearchKind). HaveAll (types_in (map variable_of (types_by k).variables)) args) (sym is) (has_types kind args has)
+-- ---- the starts of a context have arguments of the types of its variables
+
+abbrev pub TakesAll : ContextTypes → Context → Type 0
+TakesAll types context = (line : List ℕ) (start : Start) → context.start line ≡ Ok start → HaveAll (types_in (map variable_of types.variables)) start.args
+
+search_takes : (kind : SearchKind) (job : JobData) → TakesAll (search_types kind) (search_of (documents_in kind job) (keys_in job))
+search_takes kind job line start is = has_types kind start.args (documents_take (documents_in kind job) line start is)
+
+same_takes : (types : ContextTypes) (context other : Context) → Some context ≡ Some other → TakesAll types context → TakesAll types other
+same_takes types context other is takes =
+    let same : context ≡ other = same_Some context other is in
+    subst (TakesAll types) same takes
+
+row_takes : (of : JobContext) (key : List ℕ) (job : JobData) (context : Context) → (row_of of).lines job ≡ Some context → TakesAll (types_of of key) context
+row_takes c.Eval key job context is = absurd (none-some context is)
+row_takes c.Filter key job context is = same_takes (search_types k.Filter) (search_of (documents_in k.Filter job) (keys_in job)) context is (search_takes k.Filter job)
+row_takes c.Score key job context is = same_takes (search_types k.Score) (search_of (documents_in k.Score job) (keys_in job)) context is (search_takes k.Score job)
+row_takes c.Field key job context is = same_takes (search_types k.Field) (search_of (documents_in k.Field job) (keys_in job)) context is (search_takes k.Field job)
+row_takes c.Update key job context is = absurd (none-some context is)
+row_takes c.Ingest key job context is = absurd (none-some context is)
+row_takes c.Metric key job context is = absurd (none-some context is)
+
+pub starts_take : (job : JobData) (key : List ℕ) (context : Context) → context_in job ≡ Some context → TakesAll (types_of job.context key) context
+starts_take job key context is = row_takes job.context key job context is
+
+-- .. and so have those over documents of a kind
+pub field_takes : (of : JobContext) (key : List ℕ) (args : List Value) → of ≡ c.Field → HasArguments k.Field args → HaveAll (types_in (map variable_of (types_of of key).variables)) args
+field_takes of key args is has =
+    subst (λ (x : JobContext). HaveAll (types_in (map variable_of (types_of x key).variables)) args) (sym is) (has_types k.Field args has)

@@ -6,9 +6,12 @@ use Rattle.object_values.specs.declared.value.Value.TheVariants as v
 use Rattle.object_heap.specs.declared.outcome.End.{End}
 use Rattle.object_heap.specs.declared.outcome.End.TheVariants as e
 use Rattle.search_ctx.specs.declared.line.SearchKind.TheVariants as k
-use Rattle.search_ctx.specs.Lines.{Start, Fault, bound_document}
-use Rattle.document_replies.specs.Replies.{Documents, Ended}
-use Rattle.job_commands.specs.Running.{EndsOver, documents_in}
+use Rattle.document_replies.specs.Starts.{Start, Fault}
+use Rattle.search_ctx.specs.Lines.{bound_document}
+use Rattle.document_replies.specs.Replies.{Ended}
+use Rattle.document_replies.specs.Searches.{Documents}
+use Rattle.job_commands.specs.Contexts.{documents_in}
+use Rattle.job_commands.specs.Running.{EndsOver}
 use Rattle.job_commands.specs.Scripts.{Prepared}
 use Rattle.job_commands.specs.declared.answer.Answer.{Answer}
 use Rattle.job_commands.specs.Generator.{document_of}
@@ -22,8 +25,8 @@ whole_of other = None
 -- a run that gives no whole number, by an error or a limit or as it may, counts as an error
 abbrev pub given_by : End → Option ℤ
 given_by (e.Value value) = whole_of value
-given_by (e.Thrown id) = None
-given_by (e.Limit limit) = None
+given_by (e.Thrown id place) = None
+given_by (e.Limit limit place) = None
 
 abbrev pub answer_of : Ended → Answer
 answer_of ran = record { value = given_by ran.end; steps = ran.steps }
@@ -52,5 +55,5 @@ AreAnswers Is [] (answer ∷ answers) = ⊥
 AreAnswers Is (x ∷ xs) [] = ⊥
 
 -- the answer of the job's program and of its codes
-abbrev pub IsAnswerOf : Prepared → ScriptCodes → ℕ → Answer → Type 0
-IsAnswerOf p codes = IsAnswer (documents_in k.Field p) (EndsOver p codes)
+abbrev pub IsAnswerOf : Prepared → List ScriptCodes → ℕ → Answer → Type 0
+IsAnswerOf p codes = IsAnswer (documents_in k.Field p.under.job) (EndsOver p codes)

@@ -1,5 +1,5 @@
--- What scripts of a context see and give.
-use Rattle.std.specs.Prelude.{ℕ, List, [], ◌∷◌, Option, Some, None, codes}
+-- The contexts of jobs, one row each: what a script sees and gives, and what the lines of a job are, where it has any.
+use Rattle.std.specs.Prelude.{ℕ, Bool, true, false, List, [], ◌∷◌, Option, Some, None, codes}
 use Rattle.pl_types.specs.declared.ty.Ty.{Ty}
 use Rattle.pl_types.specs.declared.ty.Ty.TheVariants as t
 use Rattle.pl_types.specs.declared.primitive.Primitive.TheVariants as prim
@@ -8,15 +8,14 @@ use Rattle.typed_tree.specs.declared.program.Named.{Named}
 use Rattle.script_engine.specs.typing_rules_declared.header.ContextTypes.{ContextTypes}
 use Rattle.job_file.specs.declared.context.JobContext.{JobContext}
 use Rattle.job_file.specs.declared.context.JobContext.TheVariants as c
+use Rattle.job_file.specs.Jobs.{JobData}
 use Rattle.search_ctx.specs.declared.line.SearchKind.{SearchKind}
 use Rattle.search_ctx.specs.declared.line.SearchKind.TheVariants as k
+use Rattle.document_replies.specs.json_replies_declared.showing.ShownKeys.{ShownKeys}
+use Rattle.document_replies.specs.Replies.{Context}
+use Rattle.document_replies.specs.Searches.{Documents, search_context}
 
--- the contexts over documents
-abbrev pub kind_of : JobContext → Option SearchKind
-kind_of c.Filter = Some k.Filter
-kind_of c.Score = Some k.Score
-kind_of c.Field = Some k.Field
-kind_of other = None
+-- ---- what scripts see and give
 
 abbrev pub variable : List ℕ → Ty → Named
 variable name of = record { name = name; of = of }
@@ -30,10 +29,48 @@ search_types k.Filter = record { variables = params_and_doc []; result = t.Prim 
 search_types k.Score = record { variables = params_and_doc (variable (codes "_score") (t.Prim prim.Long) ∷ []); result = t.Prim prim.Long }
 search_types k.Field = record { variables = params_and_doc []; result = t.Def }
 
--- a script of its own sees no variables and gives any value; jobs of contexts that are not built are not read
-abbrev pub types_by : Option SearchKind → ContextTypes
-types_by None = record { variables = []; result = t.Def }
-types_by (Some kind) = search_types kind
+-- a script of its own sees no variables and gives any value
+abbrev pub own_types : ContextTypes
+own_types = record { variables = []; result = t.Def }
 
-abbrev pub types_of : JobContext → ContextTypes
-types_of context = types_by (kind_of context)
+-- ---- what lines are
+
+abbrev pub documents_in : SearchKind → JobData → Documents
+documents_in kind job = record { kind = kind; fields = job.mapping; params = job.params; room = job.limits.room }
+
+abbrev pub keys_in : JobData → ShownKeys
+keys_in job = record { members = job.members; steps = job.steps }
+
+-- ---- the rows
+
+pub record ContextRow : Type 0 where
+  -- the variables and the result of the script under a key
+  pub types : List ℕ → ContextTypes
+  -- how lines of a job are bound and answered; none where it has no lines
+  pub lines : JobData → Option Context
+  -- whether its scripts are told by their keys, in refusals and with their listings
+  pub by_key : Bool
+
+abbrev pub own_row : ContextRow
+own_row = record { types = λ key. own_types; lines = λ job. None; by_key = false }
+
+abbrev pub search_row : SearchKind → ContextRow
+search_row kind = record { types = λ key. search_types kind; lines = λ job. Some (search_context (documents_in kind job) (keys_in job)); by_key = false }
+
+abbrev pub row_of : JobContext → ContextRow
+row_of c.Eval = own_row
+row_of c.Filter = search_row k.Filter
+row_of c.Score = search_row k.Score
+row_of c.Field = search_row k.Field
+-- these are not built, and no job of theirs is read
+row_of c.Update = own_row
+row_of c.Ingest = own_row
+row_of c.Metric = record { types = λ key. own_types; lines = λ job. None; by_key = true }
+
+-- what the script of a context under a key sees and gives
+abbrev pub types_of : JobContext → List ℕ → ContextTypes
+types_of context key = (row_of context).types key
+
+-- the context of a job with lines
+abbrev pub context_in : JobData → Option Context
+context_in job = (row_of job.context).lines job

@@ -1,54 +1,50 @@
--- How the code replies to documents, and how it ends.
+-- How the code replies to the lines of a job, and how it ends.
 use Rattle.std.specs.Prelude.{◌≡◌, ℕ, List, Option, Some, None}
-use Rattle.serde_json.specs.View.{view}
 use Rattle.outer_io.specs.Lines.{InputLine}
-use Rattle.job_file.specs.Answers.{fields_view, job_view}
-use Rattle.search_ctx.specs.declared.line.SearchKind.{SearchKind}
+use Rattle.job_file.specs.Answers.{job_view}
 use Rattle.command_parts.specs.declared.report.Report.{Report}
 use Rattle.command_parts.specs.declared.status.Status.{Status}
 use Rattle.command_parts.specs.declared.status.Status.TheVariants as s
-use Rattle.command_parts.specs.Delivers.{Delivers}
 use Rattle.command_parts.specs.Reports.{IsQuiet, texts_of}
+use Rattle.command_parts.specs.Writing.{Writes}
+use Rattle.document_replies.specs.json_replies_declared.showing.ShownKeys.{ShownKeys}
 use Rattle.document_replies.specs.line_run_declared.ran.Ran.{Ran}
 use Rattle.document_replies.specs.Passing.{Passes}
-use Rattle.document_replies.specs.LineRunReplies.{Front, Reply}
+use Rattle.document_replies.specs.LineRunReplies.{Front, Reply, stateless}
 use Rattle.document_replies.specs.declared.job.DocumentJob.{DocumentJob}
-use Rattle.document_replies.specs.Jobs.{by_start, documents_of}
-use Rattle.document_replies.specs.Replies.{Documents, IsReply}
-use Rattle.job_commands.specs.Contexts.{kind_of}
+use Rattle.document_replies.specs.declared.search.SearchContext.{SearchContext}
+use Rattle.document_replies.specs.Jobs.{by_start}
+use Rattle.document_replies.specs.Replies.{Context, IsReply}
+use Rattle.document_replies.specs.Searches.{documents_of, search_context}
+use Rattle.job_commands.specs.Contexts.{context_in, keys_in}
 use Rattle.job_commands.specs.Listing.{listings_of}
 use Rattle.job_commands.specs.Preparing.{EndsAsItsProgram, codes_of}
 use Rattle.job_commands.specs.Running.{front_bytes, no_documents}
 use Rattle.job_commands.specs.declared.preparing.PreparedJob.{PreparedJob}
 use Rattle.job_commands.specs.declared.script.LimitedScript.{LimitedScript}
 
--- what a job of the code says of its documents
-abbrev pub documents_for : SearchKind → PreparedJob → Documents
-documents_for kind job = record {
-  kind = kind;
-  fields = fields_view job.found.job.mapping.fields.items;
-  params = view job.found.job.params;
-  room = job.found.job.limits.room;
-  keys = record { members = job.found.job.members; steps = job.found.job.steps };
-}
+-- a context of the code, with what is shown beside replies
+abbrev pub context_seen : ShownKeys → SearchContext → Context
+context_seen keys context = search_context (documents_of context) keys
 
--- its script with its limits
+-- the first script of a job with its limits
 abbrev pub limited : PreparedJob → LimitedScript
 limited job = record {
-  script = job.script;
+  script = job.scripts.first;
   limits = record { loops = job.found.job.limits.loops; depth = job.found.job.limits.depth; ticks = job.found.job.limits.ticks };
 }
 
-abbrev pub IsDocumentJob : SearchKind → PreparedJob → DocumentJob LimitedScript → Type 0
-IsDocumentJob kind job d = (documents_of d.settings ≡ documents_for kind job) × (d.script ≡ limited job)
+-- a job of the code over lines, in a context of the code
+abbrev pub IsDocumentJob : SearchContext → PreparedJob → DocumentJob SearchContext LimitedScript → Type 0
+IsDocumentJob context job d = (d.context ≡ context) × (d.keys ≡ keys_in (job_view job.found.job)) × (d.script ≡ limited job)
 
--- the reply that it gives to a line
-abbrev pub GivesReplies : SearchKind → PreparedJob → InputLine → Reply → Type 0
-GivesReplies kind job = IsReply (documents_for kind job) (by_start (EndsAsItsProgram (limited job)))
+-- the reply that a job gives to a line in a context
+abbrev pub GivesReplies : Context → PreparedJob → InputLine → Reply → Type 0
+GivesReplies context job = IsReply job.scripts.first.executable.allow context (by_start (EndsAsItsProgram (limited job)))
 
 -- what stands before the replies, and the listings of its codes
 abbrev pub front_for : PreparedJob → Front
-front_for job = record { bytes = front_bytes (job_view job.found.job) (codes_of job.script); listings = listings_of (codes_of job.script) }
+front_for job = record { bytes = front_bytes (job_view job.found.job) (codes_of job.scripts); listings = listings_of (codes_of job.scripts) }
 
 -- ---- ends
 
@@ -66,20 +62,11 @@ ListsBy other listings r = IsQuiet r
 abbrev pub Lists : List (List ℕ) → Report → Type 0
 Lists listings r = ListsBy r.status listings r
 
-abbrev pub EndsBy : Option SearchKind → PreparedJob → Report → Option (List ℕ) → Option (List ℕ) → Option (List ℕ) → Option (List ℕ) → Type 0
-EndsBy (Some kind) job r left left' old new =
-    Lists (listings_of (codes_of job.script)) r × Passes (GivesReplies kind job) (front_for job) job.found.job.limits.input (ran_by r) left left' old new
-EndsBy None job r left left' old new = IsQuiet r × Delivers (λ told. told ≡ no_documents) r.status old new
+abbrev pub EndsBy : Option Context → PreparedJob → Report → Option (List ℕ) → Option (List ℕ) → Option (List ℕ) → Option (List ℕ) → Type 0
+EndsBy (Some context) job r left left' old new =
+    Lists (listings_of (codes_of job.scripts)) r × Passes (stateless (GivesReplies context job)) (front_for job) job.found.job.limits.input (ran_by r) left left' old new
+EndsBy None job r left left' old new = IsQuiet r × Writes no_documents r.status old new
 
--- how a job that is prepared ends, by the kind of its context
+-- how a job that is prepared ends, by its context
 abbrev pub EndsPrepared : PreparedJob → Report → Option (List ℕ) → Option (List ℕ) → Option (List ℕ) → Option (List ℕ) → Type 0
-EndsPrepared job = EndsBy (kind_of job.found.job.context) job
-
--- with these statuses the input was not read
-abbrev pub LeavesInput : Status → Type 0
-LeavesInput s.Refused = Unit {0}
-LeavesInput s.Usage = Unit {0}
-LeavesInput s.FileFault = Unit {0}
-LeavesInput s.FileAbsent = Unit {0}
-LeavesInput s.FileLong = Unit {0}
-LeavesInput other = ⊥
+EndsPrepared job = EndsBy (context_in (job_view job.found.job)) job

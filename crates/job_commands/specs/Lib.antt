@@ -12,6 +12,7 @@ pub mod Summaries
 pub mod Starts
 pub mod Generated
 pub mod GeneratedEnds
+pub mod Tellings
 -- Definitions of the libraries below that clauses here speak of, passed on.
 pub use Rattle.script_engine.specs.Codes
 pub use Rattle.job_loading.specs.Asked

@@ -2,14 +2,15 @@
 
 ghost use Rattle.std.specs.Prelude.{◌≡◌, List, IfOk, Ok};
 ghost use Rattle.object_values.specs.declared.value.Value.{Value as ScriptValue};
-ghost use Rattle.search_ctx.specs.Lines.{start_view};
-ghost use Rattle.document_replies.specs.Jobs.{HasArguments, by_start, documents_of, ended_of};
+ghost use Rattle.document_replies.specs.Starts.{start_view};
+ghost use Rattle.document_replies.specs.Jobs.{by_start, ended_of};
+ghost use Rattle.document_replies.specs.Searches.{HasArguments, documents_of};
 ghost use Rattle.job_commands.specs.Preparing.{EndsAsItsProgram, TakesThem};
 ghost use Rattle.job_commands.specs.Answers.{IsAnswer, IsAnswerTo, answer_of, given_by, no_answer, whole_of};
 
 use crate::generator::document_of;
 use crate::script::LimitedScript;
-use document_replies::{DocumentJob, DocumentScript};
+use document_replies::{DocumentJob, DocumentScript, SearchContext};
 use object_heap::{End, Outcome};
 use object_values::{Seed, Value};
 use script_engine::RunMemory;
@@ -48,7 +49,7 @@ fn given_by(end: &End) -> Option<i64>
 {
     match end {
         End::Value(value) => whole_of(value),
-        End::Thrown(_) | End::Limit(_) => None,
+        End::Thrown { .. } | End::Limit { .. } => None,
     }
 }
 
@@ -83,23 +84,23 @@ fn seed_at(seed: Seed, number: u32) -> Seed {
 
 /// What the run of a job over the document of a number comes to.
 pub(crate) fn answer_to(
-    job: &DocumentJob<LimitedScript>,
+    job: &DocumentJob<SearchContext, LimitedScript>,
     number: u32,
     memory: &mut RunMemory,
 ) -> Result<Answer, AllocError>
-    requires { (args : List ScriptValue) → HasArguments job.now.settings.kind args → TakesThem job.now.script args }
-    ensures { IfOk result (IsAnswer (documents_of job.now.settings) (by_start (EndsAsItsProgram job.now.script)) number) }
+    requires { (args : List ScriptValue) → HasArguments job.now.context.kind args → TakesThem job.now.script args }
+    ensures { IfOk result (IsAnswer (documents_of job.now.context) (by_start (EndsAsItsProgram job.now.script)) number) }
 {
-    let settings = &job.settings;
-    let document = document_of(settings.alloc, number)?;
+    let context = &job.context;
+    let document = document_of(context.alloc, number)?;
     match bind_document(
-        settings.alloc,
-        settings.kind,
-        &settings.fields,
-        &settings.params,
+        context.alloc,
+        context.kind,
+        &context.fields,
+        &context.params,
         &document,
-        settings.room,
-        seed_at(settings.seed, number),
+        context.room,
+        seed_at(context.seed, number),
     ) {
         Ok(bound) => answer_to_bound(&job.script, bound, memory),
         Err(BindErr::Syntax | BindErr::Number | BindErr::Field) => Ok(Answer {

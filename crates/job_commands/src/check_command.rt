@@ -1,14 +1,11 @@
 //! The command `check`.
 
-ghost use Rattle.std.specs.Prelude.{◌≡◌, ◌≢◌, ◌⊎◌, ℕ, List, Option, IfSome};
+ghost use Rattle.std.specs.Prelude.{◌≡◌, ◌≢◌};
 ghost use Rattle.outer_io.specs.Faults.{next_count};
-ghost use Rattle.job_file.specs.declared.context.JobCommand.TheVariants as command;
-ghost use Rattle.command_parts.specs.Asking.{AsksBy};
-ghost use Rattle.command_parts.specs.Delivers.{Delivers};
-ghost use Rattle.command_parts.specs.Reports.{IsQuiet, Reports};
-ghost use Rattle.command_parts.specs.Writing.{IsWriteFault};
-ghost use Rattle.job_loading.specs.Asked.{job_asked};
-ghost use Rattle.job_commands.specs.Checking.{TellsCheck, accepts_told};
+ghost use Rattle.command_parts.specs.Ends.{EndsAsTold, NoInput, of_files};
+ghost use Rattle.command_parts.specs.Writing.{Writes};
+ghost use Rattle.job_commands.specs.Checking.{accepts_told};
+ghost use Rattle.job_commands.specs.Tellings.{check_telling};
 
 use crate::preparing::prepare;
 use command_parts::{Report, Status, end_with, write_bytes};
@@ -20,8 +17,7 @@ use std::alloc::Global;
 
 /// Writes that a job is accepted.
 fn accept<K: Sink>(out: &mut K) -> Status
-    ensures told { Delivers (λ told. told ≡ accepts_told) result (K.held out.old) (K.held out.new) }
-    ensures ends { (result ≡ Status.Done) ⊎ IsWriteFault result }
+    ensures writes { Writes accepts_told result (K.held out.old) (K.held out.new) }
     ensures write { result ≡ Status.WriteFault → K.faults out.new ≡ next_count (K.faults out.old) }
     ensures written { result ≢ Status.WriteFault → K.faults out.new ≡ K.faults out.old }
 {
@@ -31,21 +27,11 @@ fn accept<K: Sink>(out: &mut K) -> Status
     }
 }
 
-/// Compiles the script of the job in the file of a name, and writes that it is accepted, or why not.
+/// Compiles the scripts of the job in the file of a name, and writes that it is accepted, or why not. No script is run.
 pub fn check<F: Files, K: Sink>(alloc: Global, name: &str, files: &mut F, out: &mut K) -> Report
-    ensures told { (content : List ℕ → Option (List ℕ)) × IfSome (F.content files.old) (λ known. known ≡ content)
-        × Delivers (λ told. TellsCheck content name.now told × Reports told result) result.status (K.held out.old) (K.held out.new) }
-    // No script is run.
-    ensures quiet { IsQuiet result }
-    ensures command { result.status ≢ Status.Usage }
-    ensures reads { result.status ≢ Status.ReadFault }
-    ensures write { result.status ≡ Status.WriteFault → K.faults out.new ≡ next_count (K.faults out.old) }
-    ensures file { result.status ≡ Status.FileFault → F.faults files.new ≡ next_count (F.faults files.old) }
-    ensures written { result.status ≢ Status.WriteFault → K.faults out.new ≡ K.faults out.old }
-    ensures filed { result.status ≢ Status.FileFault → F.faults files.new ≡ F.faults files.old }
-    ensures contents { F.content files.new ≡ F.content files.old }
-    // The job's file is asked for, and then its allowlist, and no other one.
-    ensures asked { AsksBy (F.content files.old) (F.asked files.old) (F.asked files.new) (job_asked command.Check name.now) }
+    ensures ends { EndsAsTold (check_telling name.now)
+        (of_files (F.content files.old) (F.asked files.old) (F.faults files.old) (K.held out.old) (K.faults out.old))
+        (of_files (F.content files.new) (F.asked files.new) (F.faults files.new) (K.held out.new) (K.faults out.new)) NoInput result }
 {
     script_laws();
     match prepare(alloc, JobCommand::Check, name, files) {

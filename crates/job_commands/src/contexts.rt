@@ -1,27 +1,21 @@
-//! What scripts of a context see and give.
+//! The contexts of jobs: what scripts of each see and give, and what the lines of a job are.
 
-ghost use Rattle.std.specs.Prelude.{◌≡◌, IfOk};
-ghost use Rattle.job_commands.specs.Contexts.{kind_of, search_types, types_by, variable};
+ghost use Rattle.std.specs.Prelude.{◌≡◌, IfOk, option_map};
+ghost use Rattle.job_file.specs.Answers.{fields_view, job_view};
+ghost use Rattle.search_ctx.specs.Fields.{HasDistinctNames};
+ghost use Rattle.document_replies.specs.Searches.{documents_of};
+ghost use Rattle.job_commands.specs.Contexts.{context_in, documents_in, keys_in, own_types, row_of, search_row, search_types, types_of, variable};
+ghost use Rattle.job_commands.specs.Documents.{context_seen};
 
-use job_file::JobContext;
+use document_replies::{SearchContext, ShownKeys};
+use job_file::{Job, JobContext};
+use job_loading::ReadJob;
 use pl_types::classes::MAP;
 use pl_types::{Primitive, Ty};
 use script_engine::ContextTypes;
-use search_ctx::SearchKind;
+use search_ctx::{Fields, SearchKind, fields_stay};
 use std::alloc::{AllocError, Global};
 use typed_tree::{Items, Named, Text};
-
-/// The kind of a context over documents.
-pub(crate) fn kind_of(context: JobContext) -> Option<SearchKind>
-    ensures { result ≡ kind_of context }
-{
-    match context {
-        JobContext::Filter => Some(SearchKind::Filter),
-        JobContext::Score => Some(SearchKind::Score),
-        JobContext::Field => Some(SearchKind::Field),
-        JobContext::Eval | JobContext::Update | JobContext::Ingest | JobContext::Metric => None,
-    }
-}
 
 /// A variable of a type.
 fn variable(alloc: Global, name: &str, of: Ty) -> Result<Named, AllocError>
@@ -60,21 +54,123 @@ fn search_result(kind: SearchKind) -> Ty
     }
 }
 
-/// The variables and the result of a context: those of its kind, or none and any value.
+/// The variables and the result of a context over documents.
+fn search_types(alloc: Global, kind: SearchKind) -> Result<ContextTypes, AllocError>
+    ensures { IfOk result (λ types. types ≡ search_types kind) }
+{
+    Ok(ContextTypes {
+        variables: search_variables(alloc, kind)?,
+        result: search_result(kind),
+    })
+}
+
+/// Those of a script of its own.
+fn own_types(alloc: Global) -> ContextTypes
+    ensures { result ≡ own_types }
+{
+    ContextTypes {
+        variables: Items::new(alloc),
+        result: Ty::Def,
+    }
+}
+
+/// The variables and the result of the script of a context under a key.
 pub(crate) fn context_types(
     alloc: Global,
-    kind: Option<SearchKind>,
+    context: JobContext,
+    _key: &str,
 ) -> Result<ContextTypes, AllocError>
-    ensures { IfOk result (λ context. context ≡ types_by kind) }
+    ensures { IfOk result (λ types. types ≡ types_of context _key.now) }
 {
-    match kind {
-        Some(kind) => Ok(ContextTypes {
-            variables: search_variables(alloc, kind)?,
-            result: search_result(kind),
-        }),
-        None => Ok(ContextTypes {
-            variables: Items::new(alloc),
-            result: Ty::Def,
-        }),
+    match context {
+        JobContext::Filter => search_types(alloc, SearchKind::Filter),
+        JobContext::Score => search_types(alloc, SearchKind::Score),
+        JobContext::Field => search_types(alloc, SearchKind::Field),
+        JobContext::Eval | JobContext::Update | JobContext::Ingest | JobContext::Metric => {
+            Ok(own_types(alloc))
+        }
+    }
+}
+
+/// Whether the scripts of a context are told by their keys.
+pub(crate) fn tells_keys(context: JobContext) -> bool
+    ensures { result ≡ (row_of context).by_key }
+{
+    match context {
+        JobContext::Metric => true,
+        JobContext::Eval
+        | JobContext::Filter
+        | JobContext::Score
+        | JobContext::Field
+        | JobContext::Update
+        | JobContext::Ingest => false,
+    }
+}
+
+/// The context of a job over documents of a kind.
+pub(crate) fn search_context(
+    alloc: Global,
+    kind: SearchKind,
+    found: &ReadJob,
+) -> Result<SearchContext, AllocError>
+    requires distinct { HasDistinctNames (fields_view found.now.job.mapping.fields.items) }
+    ensures { IfOk result (λ context. documents_of context ≡ documents_in kind (job_view found.now.job)) }
+{
+    fields_stay();
+    Ok(SearchContext {
+        alloc,
+        kind,
+        fields: Fields::new(alloc, &found.job.mapping)?,
+        params: found.job.params.clone()?,
+        room: found.job.limits.room,
+        seed: found.seed,
+    })
+}
+
+/// The same as that of a job with lines.
+fn search_lines(
+    alloc: Global,
+    kind: SearchKind,
+    found: &ReadJob,
+) -> Result<Option<SearchContext>, AllocError>
+    requires distinct { HasDistinctNames (fields_view found.now.job.mapping.fields.items) }
+    ensures { IfOk result (λ lines. option_map (context_seen (keys_in (job_view found.now.job))) lines ≡ (search_row kind).lines (job_view found.now.job)) }
+{
+    let context = search_context(alloc, kind, found)?;
+    Ok(Some(context))
+}
+
+/// The lines of a job in a context.
+fn lines_by(
+    alloc: Global,
+    context: JobContext,
+    found: &ReadJob,
+) -> Result<Option<SearchContext>, AllocError>
+    requires distinct { HasDistinctNames (fields_view found.now.job.mapping.fields.items) }
+    ensures { IfOk result (λ lines. option_map (context_seen (keys_in (job_view found.now.job))) lines ≡ (row_of context).lines (job_view found.now.job)) }
+{
+    match context {
+        JobContext::Filter => search_lines(alloc, SearchKind::Filter, found),
+        JobContext::Score => search_lines(alloc, SearchKind::Score, found),
+        JobContext::Field => search_lines(alloc, SearchKind::Field, found),
+        JobContext::Eval | JobContext::Update | JobContext::Ingest | JobContext::Metric => Ok(None),
+    }
+}
+
+/// The context of a job, where it has lines.
+pub(crate) fn lines_of(alloc: Global, found: &ReadJob) -> Result<Option<SearchContext>, AllocError>
+    requires distinct { HasDistinctNames (fields_view found.now.job.mapping.fields.items) }
+    ensures { IfOk result (λ lines. option_map (context_seen (keys_in (job_view found.now.job))) lines ≡ context_in (job_view found.now.job)) }
+{
+    lines_by(alloc, found.job.context, found)
+}
+
+/// What is shown beside the replies of a job.
+pub(crate) fn keys_of(job: &Job) -> ShownKeys
+    ensures { result ≡ keys_in (job_view job.now) }
+{
+    ShownKeys {
+        members: job.members,
+        steps: job.steps,
     }
 }

@@ -1,15 +1,9 @@
 //! The job that runs over the documents of the generator.
 
-ghost use Rattle.std.specs.Prelude.{◌≡◌, ◌≢◌, None, IfErr, IfOk};
-ghost use Rattle.script_engine.specs.Faults.{shape_fault};
-ghost use Rattle.script_engine.specs.Rows.{HaveRows};
-ghost use Rattle.script_engine.specs.Running.{TakesTyped};
-ghost use Rattle.job_file.specs.Answers.{fields_view, job_view};
-ghost use Rattle.search_ctx.specs.Fields.{HasDistinctNames};
-ghost use Rattle.search_ctx.specs.declared.line.SearchKind.TheVariants as k;
+ghost use Rattle.std.specs.Prelude.{◌≡◌, ◌≢◌, IfErr, IfOk};
+ghost use Rattle.job_file.specs.Answers.{job_view};
 ghost use Rattle.job_loading.specs.Seen.{read_view};
-ghost use Rattle.job_commands.specs.Contexts.{kind_of, types_of};
-ghost use Rattle.job_commands.specs.Preparing.{PreparesSo};
+ghost use Rattle.job_commands.specs.Preparing.{IsReady, PreparesSo};
 ghost use Rattle.job_commands.specs.Scripts.{Prepares};
 ghost use Rattle.job_commands.specs.FixedJob.{fixed_job, fixed_under};
 
@@ -81,9 +75,7 @@ fn fixed_under(alloc: Global) -> Result<ReadJob, AllocError>
 /// The job with its script, or why the command ends.
 pub(crate) fn prepare_fixed(alloc: Global) -> Result<PreparedJob, Stop>
     ensures told { PreparesSo (Prepares fixed_under) result }
-    ensures sound { IfOk result (λ job. shape_fault job.found.allow job.script.executable.code ≡ None) }
-    ensures rows { IfOk result (λ job. HaveRows job.script.executable.allow job.script.executable.code.functions) }
-    ensures takes { IfOk result (λ job. TakesTyped (types_of job.found.job.context) job.script) }
+    ensures ready { IfOk result IsReady }
     ensures job { IfOk result (λ job. read_view job.found ≡ fixed_under) }
     ensures quiet { IfErr result (λ stop. stop ≢ Stop.FileFault) }
 {

@@ -1,23 +1,22 @@
 //! The command `gen`.
 
-ghost use Rattle.std.specs.Prelude.{◌≡◌, ◌≢◌, ◌⊎◌, ℕ, Some, map, string_bytes};
+ghost use Rattle.std.specs.Prelude.{◌≡◌, ◌≢◌, ◌⊎◌, ℕ, List, map, string_bytes};
 ghost use Rattle.outer_io.specs.Faults.{next_count};
-ghost use Rattle.script_engine.specs.Rows.{HaveRows};
 ghost use Rattle.script_engine.specs.Codes.{ScriptCodes};
-ghost use Rattle.script_engine.specs.Running.{TakesTyped};
 ghost use Rattle.job_file.specs.Answers.{fields_view};
+ghost use Rattle.job_file.specs.declared.context.JobContext.TheVariants as c;
 ghost use Rattle.search_ctx.specs.Fields.{HasDistinctNames};
-ghost use Rattle.search_ctx.specs.declared.line.SearchKind.TheVariants as k;
-ghost use Rattle.command_parts.specs.Before.{EndsBefore};
-ghost use Rattle.command_parts.specs.Delivers.{Delivers};
+ghost use Rattle.command_parts.specs.Ends.{EndsAsTold, NoInput, of_sink};
 ghost use Rattle.command_parts.specs.Reports.{IsQuiet, Reports};
-ghost use Rattle.command_parts.specs.Writing.{IsWriteFault};
-ghost use Rattle.job_commands.specs.Contexts.{kind_of, types_of};
+ghost use Rattle.command_parts.specs.Writing.{IsWriteFault, Writes};
 ghost use Rattle.job_commands.specs.Listing.{listings_of};
 ghost use Rattle.job_commands.specs.GeneratedEnds.{EndsFixed};
-ghost use Rattle.job_commands.specs.Generated.{AreFixedCodes, TellsGen, summary_told};
+ghost use Rattle.job_commands.specs.Preparing.{IsReady};
+ghost use Rattle.job_commands.specs.Generated.{summary_told};
+ghost use Rattle.job_commands.specs.Tellings.{gen_telling};
 
 use crate::codes::listings_of;
+use crate::contexts::search_context;
 use crate::documents::document_job;
 use crate::fixed_job::prepare_fixed;
 use crate::preparing::PreparedJob;
@@ -30,7 +29,7 @@ use std::alloc::Global;
 
 /// Writes the summary of so many documents.
 fn write_summary<K: Sink>(alloc: Global, count: u32, tally: Tally, out: &mut K) -> Status
-    ensures told { (codes : ScriptCodes) → Delivers (λ told. told ≡ summary_told codes count tally) result (K.held out.old) (K.held out.new) }
+    ensures writes { (codes : List ScriptCodes) → Writes (summary_told codes count tally) result (K.held out.old) (K.held out.new) }
     ensures ends { (result ≡ Status.Done) ⊎ IsWriteFault result }
     ensures write { result ≡ Status.WriteFault → K.faults out.new ≡ next_count (K.faults out.old) }
     ensures written { result ≢ Status.WriteFault → K.faults out.new ≡ K.faults out.old }
@@ -48,7 +47,7 @@ fn write_summary<K: Sink>(alloc: Global, count: u32, tally: Tally, out: &mut K) 
 fn report_of(alloc: Global, status: Status, listings: Vec<String>, tally: Tally) -> Report
     requires { (status ≡ Status.Done) ⊎ IsWriteFault status }
     ensures status { result.status ≡ status }
-    ensures reports { (codes : ScriptCodes) (count : ℕ) → map string_bytes listings.items ≡ listings_of codes → Reports (summary_told codes count tally) result }
+    ensures reports { (codes : List ScriptCodes) (count : ℕ) → map string_bytes listings.items ≡ listings_of codes → Reports (summary_told codes count tally) result }
     ensures quiet { status ≢ Status.Done → IsQuiet result }
 {
     match status {
@@ -63,9 +62,8 @@ fn report_of(alloc: Global, status: Status, listings: Vec<String>, tally: Tally)
 
 /// Runs the job over so many documents, and writes the summary.
 fn run_fixed<K: Sink>(alloc: Global, job: PreparedJob, count: u32, out: &mut K) -> Report
-    requires kind { kind_of job.found.job.context ≡ Some k.Field }
-    requires rows { HaveRows job.script.executable.allow job.script.executable.code.functions }
-    requires takes { TakesTyped (types_of job.found.job.context) job.script }
+    requires field { job.found.job.context ≡ c.Field }
+    requires ready { IsReady job }
     requires distinct { HasDistinctNames (fields_view job.found.job.mapping.fields.items) }
     ensures told { EndsFixed job count result (K.held out.old) (K.held out.new) }
     ensures ends { (result.status ≡ Status.Done) ⊎ IsWriteFault result.status }
@@ -73,12 +71,13 @@ fn run_fixed<K: Sink>(alloc: Global, job: PreparedJob, count: u32, out: &mut K) 
     ensures write { result.status ≡ Status.WriteFault → K.faults out.new ≡ next_count (K.faults out.old) }
     ensures written { result.status ≢ Status.WriteFault → K.faults out.new ≡ K.faults out.old }
 {
-    let Ok(listings) = listings_of(alloc, &job.script) else {
+    let Ok(listings) = listings_of(alloc, &job.scripts) else {
         return Report::quiet(alloc, Status::NoMemory);
     };
-    let Ok(documents) = document_job(alloc, SearchKind::Field, job) else {
+    let Ok(context) = search_context(alloc, SearchKind::Field, &job.found) else {
         return Report::quiet(alloc, Status::NoMemory);
     };
+    let documents = document_job(alloc, context, job);
     let Ok(tally) = tally_of(&documents, count) else {
         return Report::quiet(alloc, Status::NoMemory);
     };
@@ -90,16 +89,7 @@ fn run_fixed<K: Sink>(alloc: Global, job: PreparedJob, count: u32, out: &mut K) 
 /// results, and the sum of these. The report has the listing of the job's code, that of the prelude's, and how many instructions were
 /// run for all documents. Memory does not grow with the count.
 pub fn gen_<K: Sink>(alloc: Global, count: u32, out: &mut K) -> Report
-    // There are codes of the job's script of which this is told; or it ended before there were any, and nothing was written.
-    ensures told { (codes : ScriptCodes) × (AreFixedCodes codes ⊎ EndsBefore result.status (K.held out.old) (K.held out.new))
-        × Delivers (λ told. TellsGen codes count told × Reports told result) result.status (K.held out.old) (K.held out.new) }
-    // With every status but 0 there is no listing, and nothing is counted.
-    ensures quiet { result.status ≢ Status.Done → IsQuiet result }
-    ensures command { result.status ≢ Status.Usage }
-    ensures reads { result.status ≢ Status.ReadFault }
-    ensures files { result.status ≢ Status.FileFault }
-    ensures write { result.status ≡ Status.WriteFault → K.faults out.new ≡ next_count (K.faults out.old) }
-    ensures written { result.status ≢ Status.WriteFault → K.faults out.new ≡ K.faults out.old }
+    ensures ends { EndsAsTold (gen_telling count) (of_sink (K.held out.old) (K.faults out.old)) (of_sink (K.held out.new) (K.faults out.new)) NoInput result }
 {
     script_laws();
     code_laws();

@@ -1,109 +1,192 @@
-//! From a job's file to a script that can be run.
+//! From a job's file to scripts that can be run.
 
-ghost use Rattle.std.specs.Prelude.{◌≡◌, ◌≢◌, ℕ, List, None, Option, IfErr, IfOk, IfSome};
+ghost use Rattle.std.specs.Prelude.{◌≡◌, ◌≢◌, ◌++◌, ℕ, List, [], ◌∷◌, Option, IfErr, IfOk, IfSome, OnOk, string_bytes};
 ghost use Rattle.outer_io.specs.Faults.{HasCause};
-ghost use Rattle.script_engine.specs.Faults.{shape_fault};
-ghost use Rattle.script_engine.specs.Rows.{HaveRows};
-ghost use Rattle.script_engine.specs.Running.{TakesTyped};
 ghost use Rattle.job_file.specs.Answers.{fields_view, scripts_view};
-ghost use Rattle.job_loading.specs.Replies.{refusal_of};
 ghost use Rattle.search_ctx.specs.Fields.{HasDistinctNames};
 ghost use Rattle.command_parts.specs.Asking.{AsksBy};
 ghost use Rattle.command_parts.specs.Stops.{stop_told};
 ghost use Rattle.job_loading.specs.Asked.{job_asked};
 ghost use Rattle.job_loading.specs.Loading.{refusal};
+ghost use Rattle.job_loading.specs.Refusals.{script_refusal};
 ghost use Rattle.job_loading.specs.Seen.{read_view};
-ghost use Rattle.job_commands.specs.Contexts.{types_of};
-ghost use Rattle.job_commands.specs.Preparing.{CompilesJob, PreparesSo};
-ghost use Rattle.job_commands.specs.Scripts.{Prepares, PreparesJob, text_in};
+ghost use Rattle.job_commands.specs.Contexts.{row_of};
+ghost use Rattle.job_commands.specs.Preparing.{CompilesJob, CompilesScript, HaveScripts, IsReady, PreparesSo, RefusesScripts};
+ghost use Rattle.job_commands.specs.Scripts.{Prepares, PreparesJob};
 
-use crate::contexts::{context_types, kind_of};
+use crate::contexts::{context_types, tells_keys};
 use command_parts::Stop;
-use document_replies::refusal_line;
-use job_file::{Job, JobCommand};
-use job_loading::{ReadJob, read_job};
+use document_replies::script_refusal_line;
+use job_file::{JobCommand, JobContext};
+use job_loading::{ReadJob, key_refused, read_job};
 use outer_io::Files;
 use pl_types::{Fail, Refusal};
-use script_engine::{Script, compile};
-use std::alloc::Global;
+use script_engine::{Script, VerifiedPrelude, compile_beside};
+use std::alloc::{AllocError, Global};
 
-/// A job with its script.
+/// The scripts of a job, in their order.
+pub(crate) struct JobScripts {
+    pub(crate) first: Script,
+    pub(crate) more: Vec<Script>,
+}
+
+impl Drop for JobScripts {
+    fn drop(self) {
+        let JobScripts {
+            first: _first,
+            more: _more,
+        } = self;
+    }
+}
+
+impl JobScripts {
+    /// The first one.
+    pub(crate) fn into_first(self) -> Script
+        ensures { result ≡ self.first }
+    {
+        let JobScripts { first, more: _more } = self;
+        first
+    }
+}
+
+/// A job with its scripts.
 pub(crate) struct PreparedJob {
     pub(crate) found: ReadJob,
-    pub(crate) script: Script,
+    pub(crate) scripts: JobScripts,
 }
 
 impl Drop for PreparedJob {
     fn drop(self) {
         let PreparedJob {
             found: _found,
-            script: _script,
+            scripts: _scripts,
         } = self;
     }
 }
 
 impl PreparedJob {
-    /// The job and its script.
-    pub(crate) fn into_parts(self) -> (ReadJob, Script)
+    /// The job and its scripts.
+    pub(crate) fn into_parts(self) -> (ReadJob, JobScripts)
         ensures found { result.0 ≡ self.found }
-        ensures script { result.1 ≡ self.script }
+        ensures scripts { result.1 ≡ self.scripts }
     {
-        let PreparedJob { found, script } = self;
-        (found, script)
-    }
-}
-
-/// The text of a job's one script.
-fn text_of(job: &Job) -> &str
-    ensures { result.now ≡ text_in (scripts_view job.now.scripts.items) }
-{
-    match job.scripts.get(0) {
-        Some((_key, text)) => text.as_str(),
-        None => "",
+        let PreparedJob { found, scripts } = self;
+        (found, scripts)
     }
 }
 
 /// The end for a script that is refused.
-fn script_refused(alloc: Global, wrong: Refusal) -> Stop
-    ensures told { IfSome (stop_told result) (λ told. told ≡ refusal (refusal_of wrong)) }
+fn script_refused(alloc: Global, context: JobContext, key: &str, wrong: Refusal) -> Stop
+    ensures told { IfSome (stop_told result) (λ told. told ≡ refusal (script_refusal (row_of context).by_key key.now wrong)) }
     ensures quiet { result ≢ Stop.FileFault }
 {
-    match refusal_line(alloc, wrong) {
+    match script_refusal_line(alloc, tells_keys(context), key, wrong) {
         Ok(line) => Stop::Refused(line),
         Err(_) => Stop::NoMemory,
     }
 }
 
-/// The script of a job.
-fn script_of(alloc: Global, found: &ReadJob) -> Result<Script, Stop>
-    ensures told { CompilesJob (read_view found.now) result }
-    ensures sound { IfOk result (λ script. shape_fault found.now.allow script.executable.code ≡ None) }
-    ensures rows { IfOk result (λ script. HaveRows script.executable.allow script.executable.code.functions) }
-    ensures takes { IfOk result (λ script. TakesTyped (types_of found.now.job.context) script) }
+/// The script of a job under a key.
+fn script_of(
+    alloc: Global,
+    found: &ReadJob,
+    prelude: &VerifiedPrelude,
+    key: &str,
+    text: &str,
+) -> Result<Script, Stop>
+    ensures told { CompilesScript (read_view found.now) key.now text.now result }
     ensures quiet { IfErr result (λ stop. stop ≢ Stop.FileFault) }
 {
-    let context = context_types(alloc, kind_of(found.job.context))?;
-    match compile(alloc, text_of(&found.job), &found.allow, &context) {
+    let context = context_types(alloc, found.job.context, key)?;
+    match compile_beside(alloc, text, &found.allow, &context, prelude) {
         Ok(script) => Ok(script),
-        Err(Fail::Refused(wrong)) => Err(script_refused(alloc, wrong)),
+        Err(Fail::Refused(wrong)) => Err(script_refused(alloc, found.job.context, key, wrong)),
         Err(Fail::NoMemory) => Err(Stop::NoMemory),
     }
 }
 
-/// A job that was read, with its script, or why the command ends: the script is refused, or memory ran out.
+/// The script of a text of a job, which stands after its key.
+fn script_at(
+    alloc: Global,
+    found: &ReadJob,
+    prelude: &VerifiedPrelude,
+    script: &(String, String),
+) -> Result<Script, Stop>
+    ensures told { CompilesScript (read_view found.now) (string_bytes script.now.0) (string_bytes script.now.1) result }
+    ensures quiet { IfErr result (λ stop. stop ≢ Stop.FileFault) }
+{
+    script_of(alloc, found, prelude, script.0.as_str(), script.1.as_str())
+}
+
+/// Puts a script last.
+fn push_script(scripts: &mut Vec<Script>, script: Script) -> Result<(), AllocError>
+    ensures { OnOk result (scripts.new.items ≡ scripts.old.items ++ script ∷ []) }
+{
+    scripts.push(script)?;
+    Ok(())
+}
+
+/// The scripts of some texts of a job, each after its key, in their order.
+fn scripts_of(
+    alloc: Global,
+    found: &ReadJob,
+    prelude: &VerifiedPrelude,
+    texts: &[(String, String)],
+) -> Result<Vec<Script>, Stop>
+    ensures compiled { IfOk result (λ scripts. HaveScripts (read_view found.now) (scripts_view texts.now) scripts.items) }
+    ensures refused { IfErr result (λ stop. RefusesScripts (read_view found.now) (scripts_view texts.now) stop) }
+    ensures quiet { IfErr result (λ stop. stop ≢ Stop.FileFault) }
+{
+    let mut scripts = Vec::new(alloc);
+    for text in texts {
+        let script = script_at(alloc, found, prelude, text)?;
+        push_script(&mut scripts, script)?;
+    }
+    Ok(scripts)
+}
+
+/// A script of a job and those behind it, which share the prelude.
+fn scripts_from(
+    alloc: Global,
+    found: &ReadJob,
+    first: &(String, String),
+    rest: &[(String, String)],
+) -> Result<JobScripts, Stop>
+    ensures told { CompilesJob (read_view found.now) ((string_bytes first.now.0, string_bytes first.now.1) ∷ scripts_view rest.now) result }
+    ensures quiet { IfErr result (λ stop. stop ≢ Stop.FileFault) }
+{
+    let prelude = VerifiedPrelude::new(alloc)?;
+    let script = script_at(alloc, found, &prelude, first)?;
+    let more = scripts_of(alloc, found, &prelude, rest)?;
+    Ok(JobScripts {
+        first: script,
+        more,
+    })
+}
+
+/// The scripts of a job, of which it has one at least.
+fn job_scripts(alloc: Global, found: &ReadJob) -> Result<JobScripts, Stop>
+    ensures told { CompilesJob (read_view found.now) (scripts_view found.now.job.scripts.items) result }
+    ensures quiet { IfErr result (λ stop. stop ≢ Stop.FileFault) }
+{
+    match found.job.scripts.as_slice().split_first() {
+        Some((first, rest)) => scripts_from(alloc, found, first, rest),
+        None => Err(key_refused(alloc, "script")),
+    }
+}
+
+/// A job that was read, with its scripts, or why the command ends: a script is refused, or memory ran out.
 pub(crate) fn prepare_found(alloc: Global, found: ReadJob) -> Result<PreparedJob, Stop>
     ensures told { PreparesSo (Prepares (read_view found)) result }
     ensures found { IfOk result (λ job. job.found ≡ found) }
-    ensures sound { IfOk result (λ job. shape_fault job.found.allow job.script.executable.code ≡ None) }
-    ensures rows { IfOk result (λ job. HaveRows job.script.executable.allow job.script.executable.code.functions) }
-    ensures takes { IfOk result (λ job. TakesTyped (types_of job.found.job.context) job.script) }
+    ensures ready { IfOk result IsReady }
     ensures quiet { IfErr result (λ stop. stop ≢ Stop.FileFault) }
 {
-    let script = script_of(alloc, &found)?;
-    Ok(PreparedJob { found, script })
+    let scripts = job_scripts(alloc, &found)?;
+    Ok(PreparedJob { found, scripts })
 }
 
-/// The job in the file of a name, for a command, with its script, or why the command ends.
+/// The job in the file of a name, for a command, with its scripts, or why the command ends.
 pub(crate) fn prepare<F: Files>(
     alloc: Global,
     command: JobCommand,
@@ -112,9 +195,7 @@ pub(crate) fn prepare<F: Files>(
 ) -> Result<PreparedJob, Stop>
     ensures told { (content : List ℕ → Option (List ℕ)) × IfSome (F.content files.old) (λ known. known ≡ content)
         × PreparesSo (PreparesJob command content name.now) result }
-    ensures sound { IfOk result (λ job. shape_fault job.found.allow job.script.executable.code ≡ None) }
-    ensures rows { IfOk result (λ job. HaveRows job.script.executable.allow job.script.executable.code.functions) }
-    ensures takes { IfOk result (λ job. TakesTyped (types_of job.found.job.context) job.script) }
+    ensures ready { IfOk result IsReady }
     ensures distinct { IfOk result (λ job. HasDistinctNames (fields_view job.found.job.mapping.fields.items)) }
     ensures kept { F.content files.new ≡ F.content files.old }
     ensures cause { HasCause Stop.FileFault (F.faults files.old) (F.faults files.new) result }

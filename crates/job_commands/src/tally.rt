@@ -4,7 +4,8 @@ ghost use Rattle.std.specs.Prelude.{◌≡◌, ◌+◌, ◌<◌, ◌^◌, List, 
 ghost use Rattle.serde_json.specs.View.{view};
 ghost use Rattle.object_values.specs.declared.value.Value.{Value as ScriptValue};
 ghost use Rattle.job_loading.specs.Replies.{line_of};
-ghost use Rattle.document_replies.specs.Jobs.{HasArguments, by_start, documents_of};
+ghost use Rattle.document_replies.specs.Jobs.{by_start};
+ghost use Rattle.document_replies.specs.Searches.{HasArguments, documents_of};
 ghost use Rattle.job_commands.specs.Preparing.{EndsAsItsProgram, TakesThem};
 ghost use Rattle.job_commands.specs.Answers.{IsAnswer};
 ghost use Rattle.job_commands.specs.Summaries.{counted, nothing_counted, summary, with_value};
@@ -14,7 +15,7 @@ use crate::answer::{Answer, answer_to};
 use crate::generator::following;
 use crate::script::LimitedScript;
 use arithmetic::long::sum;
-use document_replies::{DocumentJob, DocumentScript, line_of};
+use document_replies::{DocumentJob, DocumentScript, SearchContext, line_of};
 use serde_json::{Value as Json, json};
 use std::alloc::{AllocError, Global};
 
@@ -74,11 +75,14 @@ fn counted(answer: Answer, tally: Tally) -> Tally
 }
 
 /// What is counted of the answers of a job to so many documents.
-pub(crate) fn tally_of(job: &DocumentJob<LimitedScript>, count: u32) -> Result<Tally, AllocError>
-    requires { (args : List ScriptValue) → HasArguments job.now.settings.kind args → TakesThem job.now.script args }
-    ensures { IfOk result (IsTally (IsAnswer (documents_of job.now.settings) (by_start (EndsAsItsProgram job.now.script))) count) }
+pub(crate) fn tally_of(
+    job: &DocumentJob<SearchContext, LimitedScript>,
+    count: u32,
+) -> Result<Tally, AllocError>
+    requires { (args : List ScriptValue) → HasArguments job.now.context.kind args → TakesThem job.now.script args }
+    ensures { IfOk result (IsTally (IsAnswer (documents_of job.now.context) (by_start (EndsAsItsProgram job.now.script))) count) }
 {
-    let mut memory = job.script.memory(job.settings.alloc);
+    let mut memory = job.script.memory(job.alloc);
     let mut number = 0;
     let mut tally = nothing_counted();
     'documents: for _made in 0..count {

@@ -1,11 +1,12 @@
 -- Lines about jobs: what is wrong with a job or with its allowlist, and what is wrong with a line of the input.
-use Rattle.std.specs.Prelude.{ℕ, true, List, codes}
+use Rattle.std.specs.Prelude.{ℕ, Bool, true, List, codes, if◌then◌else◌}
 use Rattle.serde_json.specs.Data.{Data, boolean, number, string, object, unsigned, member, no_members, Members}
+use Rattle.pl_types.specs.declared.refusal.Refusal.{Refusal}
 use Rattle.allowlist.specs.Files as list
 use Rattle.job_file.specs.Jobs as job
 use Rattle.job_replies.specs.declared.line_fault.LineFault.{LineFault}
 use Rattle.job_replies.specs.declared.line_fault.LineFault.TheVariants as line
-use Rattle.json_replies.specs.Replies.{only, kind_reply}
+use Rattle.json_replies.specs.Replies.{only, kind_reply, name_of, refusal_of}
 
 -- the name and the number of a refusal
 abbrev pub named : List ℕ → ℕ → Members
@@ -33,6 +34,16 @@ refused_line at name rule = refused (member (codes "line") (number (unsigned at)
 abbrev pub list_refusal : list.Fault → Data
 list_refusal (list.Syntax at) = refused_line at (codes "AllowSyntax") 23
 list_refusal (list.Unknown at) = refused_line at (codes "AllowUnknown") 24
+
+-- a script is refused that is told by its key
+abbrev pub named_refusal : List ℕ → Refusal → Data
+named_refusal key wrong =
+    refused (member (codes "name") (string (name_of wrong.number)) (member (codes "number") (number (unsigned wrong.number)) (member (codes "offset") (number (unsigned wrong.offset))
+    (member (codes "script") (string key) no_members))))
+
+-- a script of a job is refused, where the scripts of its context are told by their keys or not
+abbrev pub script_refusal : Bool → List ℕ → Refusal → Data
+script_refusal by_key key wrong = if by_key then named_refusal key wrong else refusal_of wrong
 
 -- what is wrong with a line
 abbrev pub line_kind : LineFault → List ℕ

@@ -1,4 +1,4 @@
-//! Lines of JSON about jobs: refusals of jobs and of allowlists, errors of lines of the input, and the listings before the replies.
+//! Lines of JSON about jobs: refusals of jobs, of allowlists and of scripts, errors of lines of the input, and the listings before the replies.
 #![tactic(auto)]
 
 mod line_fault;
@@ -6,5 +6,7 @@ mod listings;
 mod refusals;
 
 pub use line_fault::LineFault;
-pub use listings::{listing_line, prelude_listing_line};
-pub use refusals::{accepted_line, field_refusal_line, job_refusal_line, list_refusal_line};
+pub use listings::{prelude_listing_line, script_listing_line};
+pub use refusals::{
+    accepted_line, field_refusal_line, job_refusal_line, list_refusal_line, script_refusal_line,
+};

@@ -1,15 +1,16 @@
-//! Refusals of jobs and of allowlists.
+//! Refusals of jobs, of allowlists and of scripts.
 
 ghost use Rattle.std.specs.Prelude.{◌≡◌, string_bytes, IfOk};
 ghost use Rattle.serde_json.specs.View.{view};
 ghost use Rattle.job_file.specs.Jobs as job;
 ghost use Rattle.json_replies.specs.Replies.{line_of};
 ghost use Rattle.job_replies.specs.Errors.{IsJobLine, IsListLine};
-ghost use Rattle.job_replies.specs.Refusals.{accepted, job_refusal, named, refused, refused_field, refused_line};
+ghost use Rattle.job_replies.specs.Refusals.{accepted, job_refusal, named, named_refusal, refused, refused_field, refused_line, script_refusal};
 
 use allowlist::AllowErr;
 use job_file::JobErr;
-use json_replies::line_of;
+use json_replies::{line_of, name_of, refusal_line};
+use pl_types::Refusal;
 use serde_json::{Value as Json, json};
 use std::alloc::{AllocError, Global};
 
@@ -96,6 +97,40 @@ pub fn list_refusal_line(alloc: Global, error: &AllowErr) -> Result<String, Allo
         AllowErr::Syntax(line) => line_refused_line(alloc, *line, "AllowSyntax", 23),
         AllowErr::Unknown(line) => line_refused_line(alloc, *line, "AllowUnknown", 24),
         AllowErr::NoMemory => Err(AllocError),
+    }
+}
+
+/// A script that is refused and told by its key.
+fn named_refusal(alloc: Global, key: &str, wrong: Refusal) -> Result<Json, AllocError>
+    ensures { IfOk result (λ json. view json ≡ named_refusal key.now wrong) }
+{
+    let name = name_of(wrong.number);
+    let number = wrong.number;
+    let offset = wrong.offset;
+    json!(in alloc; {"refused": {"name": name, "number": number, "offset": offset, "script": key}})
+}
+
+/// Its line.
+fn named_refusal_line(alloc: Global, key: &str, wrong: Refusal) -> Result<String, AllocError>
+    ensures { IfOk result (λ line. string_bytes line ≡ line_of (named_refusal key.now wrong)) }
+{
+    let json = named_refusal(alloc, key, wrong)?;
+    line_of(alloc, &json)
+}
+
+/// The line of a script of a job that is refused, where the scripts of its context are told by their keys or not.
+pub fn script_refusal_line(
+    alloc: Global,
+    by_key: bool,
+    key: &str,
+    wrong: Refusal,
+) -> Result<String, AllocError>
+    ensures { IfOk result (λ line. string_bytes line ≡ line_of (script_refusal by_key key.now wrong)) }
+{
+    if by_key {
+        named_refusal_line(alloc, key, wrong)
+    } else {
+        refusal_line(alloc, wrong)
     }
 }
 

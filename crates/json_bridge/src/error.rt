@@ -1,7 +1,8 @@
-//! Why a JSON value is not bound, and why a value is not given as JSON.
+//! Why a JSON value or a line is not bound, and why a value is not given as JSON.
 
 ghost use Rattle.std.specs.Prelude.{◌≡◌};
 
+use json_reading::ReadErr;
 use std::alloc::AllocError;
 
 /// Why a JSON value is not bound.
@@ -22,6 +23,59 @@ impl From<AllocError> for NumErr {
 
     fn from(_error: AllocError) -> NumErr {
         NumErr::NoMemory
+    }
+}
+
+/// Why a line is not bound. The causes are tried in this order.
+#[derive(Clone, Copy, Debug, PartialEq, Eq, thiserror::Error)]
+pub enum BindErr {
+    /// It is no JSON.
+    #[error("the line is no JSON")]
+    Syntax,
+    /// Some number is no whole one of 64 bits with a sign.
+    #[error("a number is outside signed 64 bits")]
+    Number,
+    /// It is no object, or breaks a rule of the context.
+    #[error("the line breaks a rule of the context")]
+    Field,
+    /// Memory ran out.
+    #[error("out of memory")]
+    NoMemory,
+}
+
+impl From<AllocError> for BindErr {
+    ghost use Rattle.json_bridge.specs.declared.error.BindErr.TheVariants.{NoMemory};
+
+    ghost from_gives = { λ _ e. e ≡ NoMemory };
+
+    fn from(_error: AllocError) -> BindErr {
+        BindErr::NoMemory
+    }
+}
+
+impl From<ReadErr> for BindErr {
+    ghost use Rattle.json_bridge.specs.Errors.{bind_of_reading};
+
+    ghost from_gives = { λ cause e. e ≡ bind_of_reading cause };
+
+    fn from(error: ReadErr) -> BindErr {
+        match error {
+            ReadErr::Syntax => BindErr::Syntax,
+            ReadErr::NoMemory => BindErr::NoMemory,
+        }
+    }
+}
+
+impl From<NumErr> for BindErr {
+    ghost use Rattle.json_bridge.specs.Errors.{bind_of_number};
+
+    ghost from_gives = { λ cause e. e ≡ bind_of_number cause };
+
+    fn from(error: NumErr) -> BindErr {
+        match error {
+            NumErr::Number => BindErr::Number,
+            NumErr::NoMemory => BindErr::NoMemory,
+        }
     }
 }
 

@@ -1,4 +1,4 @@
-//! JSON values as values of scripts, and back.
+//! JSON values as values of scripts, and back; and with what a run over a line of input starts.
 #![tactic(auto)]
 
 mod binding;
@@ -6,8 +6,12 @@ mod error;
 mod giving;
 mod laws;
 mod names;
+mod start;
+mod without;
 
 pub use binding::bind;
-pub use error::{GiveErr, NumErr};
+pub use error::{BindErr, GiveErr, NumErr};
 pub use giving::give;
 pub use laws::{binding_keeps_fit, bound_is_given_back, giving_has_no_float};
+pub use start::Bound;
+pub use without::give_without;

@@ -23,8 +23,8 @@ thrown_has_none class (Some text) = refl
 
 pub reply_has_none : (end : End) (objects : List Object) → has_float (reply_of end objects) ≡ false
 reply_has_none (e.Value value) objects = given_has_none (given_of objects value) (given_whole objects value)
-reply_has_none (e.Thrown id) objects = thrown_has_none (class_of objects id) (message_of objects id)
-reply_has_none (e.Limit which) objects = refl
+reply_has_none (e.Thrown id place) objects = thrown_has_none (class_of objects id) (message_of objects id)
+reply_has_none (e.Limit which place) objects = refl
 
 pub refusal_has_none : (refusal : Refusal) → has_float (refusal_of refusal) ≡ false
 refusal_has_none refusal = refl

@@ -12,7 +12,8 @@ use Rattle.serde_json.specs.declared.value.Value.{Value, Object}
 use Rattle.std.proofs.Math.Seq.{drop-cons}
 use Rattle.std.proofs.lemmas.List.{append-nil, drop_all}
 use Rattle.serde_json.proofs.Views.{view-Object, members_view-insert_entry}
-use Rattle.allowlist.specs.Index.{member_at}
+use Rattle.allowlist.specs.Allow.{AllowList}
+use Rattle.allowlist.specs.Index.{member_in}
 use Rattle.member_names.specs.Names.{text_of}
 use Rattle.json_replies.specs.declared.showing.ShownKeys.{ShownKeys}
 use Rattle.json_replies.specs.Showing.{member_items, shown_reply, with_key, with_members, with_steps}
@@ -48,20 +49,20 @@ key_whole key d (string s) h k = refl
 key_whole key d (array items) h k = k
 key_whole key d (object members) h k = put_whole key d members h k
 
-texts_whole : (reached : List ℕ) → items_have_float (member_items reached) ≡ false
-texts_whole [] = refl
-texts_whole (first ∷ rest) = texts_whole rest
+texts_whole : (allow : AllowList) (reached : List ℕ) → items_have_float (member_items allow reached) ≡ false
+texts_whole allow [] = refl
+texts_whole allow (first ∷ rest) = texts_whole allow rest
 
-members_whole : (shown : Bool) (reached : List ℕ) (reply : Data) → has_float reply ≡ false → has_float (with_members shown reached reply) ≡ false
-members_whole true reached reply h = key_whole _ (array (member_items reached)) reply (texts_whole reached) h
-members_whole false reached reply h = h
+members_whole : (allow : AllowList) (shown : Bool) (reached : List ℕ) (reply : Data) → has_float reply ≡ false → has_float (with_members allow shown reached reply) ≡ false
+members_whole allow true reached reply h = key_whole _ (array (member_items allow reached)) reply (texts_whole allow reached) h
+members_whole allow false reached reply h = h
 
 steps_whole : (shown : Bool) (steps : ℕ) (reply : Data) → has_float reply ≡ false → has_float (with_steps shown steps reply) ≡ false
 steps_whole true steps reply h = key_whole _ (number (unsigned steps)) reply refl h
 steps_whole false steps reply h = h
 
-pub shown_has_none : (keys : ShownKeys) (reached : List ℕ) (steps : ℕ) (reply : Data) → has_float reply ≡ false → has_float (shown_reply keys reached steps reply) ≡ false
-shown_has_none keys reached steps reply h = steps_whole keys.steps steps _ (members_whole keys.members reached reply h)
+pub shown_has_none : (allow : AllowList) (keys : ShownKeys) (reached : List ℕ) (steps : ℕ) (reply : Data) → has_float reply ≡ false → has_float (shown_reply allow keys reached steps reply) ≡ false
+shown_has_none allow keys reached steps reply h = steps_whole keys.steps steps _ (members_whole allow keys.members reached reply h)
 
 -- ---- keys
 
@@ -73,25 +74,25 @@ key_put reply value before after key name is entries named =
 
 -- ---- members
 
--- the text of a member as JSON
-abbrev pub text_data : ℕ → Data
-text_data place = string (text_of (member_at place))
+-- the text of a member of a list as JSON
+abbrev pub text_data : AllowList → ℕ → Data
+text_data allow place = string (text_of (member_in allow place))
 
-texts_are : (reached : List ℕ) → items_of (map text_data reached) ≡ member_items reached
-texts_are [] = refl
-texts_are (first ∷ rest) = rw (texts_are rest) refl
+texts_are : (allow : AllowList) (reached : List ℕ) → items_of (map (text_data allow) reached) ≡ member_items allow reached
+texts_are allow [] = refl
+texts_are allow (first ∷ rest) = rw (texts_are allow rest) refl
 
 -- one text more
-pub text_added : (before after : List Data) (reached : List ℕ) (at other : ℕ) → at < length reached → before ++ map text_data (drop at reached) ≡ map text_data reached
-    → after ≡ before ++ text_data (get_or reached at other) ∷ [] → after ++ map text_data (drop (at + 1) reached) ≡ map text_data reached
-text_added before after reached at other within is added =
+pub text_added : (allow : AllowList) (before after : List Data) (reached : List ℕ) (at other : ℕ) → at < length reached → before ++ map (text_data allow) (drop at reached) ≡ map (text_data allow) reached
+    → after ≡ before ++ text_data allow (get_or reached at other) ∷ [] → after ++ map (text_data allow) (drop (at + 1) reached) ≡ map (text_data allow) reached
+text_added allow before after reached at other within is added =
     let next : drop at reached ≡ get_or reached at other ∷ drop (at + 1) reached = rw (add-one, drop-cons reached at other within) refl in
-    rw added (append_assoc before (text_data (get_or reached at other) ∷ []) (map text_data (drop (at + 1) reached)) ∙ (ap (λ (ns : List ℕ). before ++ map text_data ns) (sym next) ∙ is))
+    rw added (append_assoc before (text_data allow (get_or reached at other) ∷ []) (map (text_data allow) (drop (at + 1) reached)) ∙ (ap (λ (ns : List ℕ). before ++ map (text_data allow) ns) (sym next) ∙ is))
 
 -- the texts of all members
-pub texts_all : (texts : List Value) (reached : List ℕ) (at : ℕ) → length reached ≤ at → map view texts ++ map text_data (drop at reached) ≡ map text_data reached
-    → items_view texts ≡ member_items reached
-texts_all texts reached at past is =
+pub texts_all : (allow : AllowList) (texts : List Value) (reached : List ℕ) (at : ℕ) → length reached ≤ at → map view texts ++ map (text_data allow) (drop at reached) ≡ map (text_data allow) reached
+    → items_view texts ≡ member_items allow reached
+texts_all allow texts reached at past is =
     let none : drop at reached ≡ [] = drop_all at reached past in
-    let made : map view texts ≡ map text_data reached = sym (append-nil (map view texts)) ∙ (ap (λ (ns : List ℕ). map view texts ++ map text_data ns) (sym none) ∙ is) in
-    ap items_of made ∙ texts_are reached
+    let made : map view texts ≡ map (text_data allow) reached = sym (append-nil (map view texts)) ∙ (ap (λ (ns : List ℕ). map view texts ++ map (text_data allow) ns) (sym none) ∙ is) in
+    ap items_of made ∙ texts_are allow reached

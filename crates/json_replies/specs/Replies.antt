@@ -62,11 +62,11 @@ limit_kind which.Depth = codes "limit-depth"
 limit_kind which.Ticks = codes "limit-ticks"
 limit_kind which.Room = codes "limit-room"
 
--- the reply to a run that ended so and left these objects
+-- the reply to a run that ended so and left these objects; where an error arose it does not tell
 abbrev pub reply_of : End → List Object → Data
 reply_of (e.Value value) objects = result_reply (given_of objects value)
-reply_of (e.Thrown id) objects = thrown_reply objects id
-reply_of (e.Limit which) objects = kind_reply (limit_kind which)
+reply_of (e.Thrown id place) objects = thrown_reply objects id
+reply_of (e.Limit which place) objects = kind_reply (limit_kind which)
 
 -- whether a reply is an error
 abbrev pub is_error : Data → Bool

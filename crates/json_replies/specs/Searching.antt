@@ -16,8 +16,8 @@ is_below_zero value = false
 
 abbrev pub gives_below_zero : End → Bool
 gives_below_zero (e.Value value) = is_below_zero value
-gives_below_zero (e.Thrown id) = false
-gives_below_zero (e.Limit limit) = false
+gives_below_zero (e.Thrown id place) = false
+gives_below_zero (e.Limit limit place) = false
 
 -- whether a run gives a score below 0
 abbrev pub is_negative_score : SearchKind → End → Bool

@@ -9,7 +9,7 @@ use serde_json::{Value as Json, json};
 use std::alloc::{AllocError, Global};
 
 /// The name of the rule of a number, if it is a rule's.
-fn name_of(number: u8) -> &'static str
+pub fn name_of(number: u8) -> &'static str
     ensures { result.now ≡ name_of number }
 {
     if 1 <= number && number <= rules::RULE_COUNT {

@@ -16,7 +16,7 @@ pub fn reply_of(alloc: Global, end: &End, heap: &Heap) -> Result<Json, AllocErro
 {
     match end {
         End::Value(value) => result_reply(alloc, heap, value),
-        End::Thrown(id) => thrown_reply(alloc, heap, *id),
-        End::Limit(which) => kind_reply(alloc, limit_kind(*which)),
+        End::Thrown { id, .. } => thrown_reply(alloc, heap, *id),
+        End::Limit { limit, .. } => kind_reply(alloc, limit_kind(*limit)),
     }
 }

@@ -25,8 +25,8 @@ fn gives_below_zero(end: &End) -> bool
 {
     match end {
         End::Value(value) => is_below_zero(value),
-        End::Thrown(_) => false,
-        End::Limit(_) => false,
+        End::Thrown { .. } => false,
+        End::Limit { .. } => false,
     }
 }
 

@@ -5,7 +5,7 @@ ghost use Rattle.std.specs.List.{list_all};
 ghost use Rattle.serde_json.specs.Data.{string};
 ghost use Rattle.serde_json.specs.View.{items_view, view};
 ghost use Rattle.allowlist.specs.Allow.{flag};
-ghost use Rattle.allowlist.specs.Index.{member_at};
+ghost use Rattle.allowlist.specs.Index.{member_in};
 ghost use Rattle.member_names.specs.Names.{text_of};
 ghost use Rattle.json_replies.specs.Replies.{is_error, line_of};
 ghost use Rattle.json_replies.specs.Searching.{search_reply_of};
@@ -63,7 +63,7 @@ fn push_text(
     texts: &mut Vec<Json>,
 ) -> Result<(), AllocError>
     requires { number < length allow.now.members }
-    ensures { OnOk result (map view texts.new.items ≡ map view texts.old.items ++ string (text_of (member_at number)) ∷ []) }
+    ensures { OnOk result (map view texts.new.items ≡ map view texts.old.items ++ string (text_of (member_in allow.now number)) ∷ []) }
 {
     let text = member_text(alloc, allow, number)?;
     texts.push(Json::String(text))?;
@@ -73,7 +73,7 @@ fn push_text(
 /// The texts of members of a list, by their numbers.
 fn member_texts(alloc: Global, allow: &Allow, reached: &[u32]) -> Result<Vec<Json>, AllocError>
     requires { list_all (flag allow.now.members) reached.now ≡ true }
-    ensures { IfOk result (λ texts. items_view texts.items ≡ member_items reached.now) }
+    ensures { IfOk result (λ texts. items_view texts.items ≡ member_items allow.now reached.now) }
 {
     let mut texts = Vec::new(alloc);
     for number in reached {
@@ -91,7 +91,7 @@ fn with_members(
     reply: Json,
 ) -> Result<Json, AllocError>
     requires { list_all (flag allow.now.members) reached.now ≡ true }
-    ensures { IfOk result (λ json. view json ≡ with_members shown reached.now (view reply)) }
+    ensures { IfOk result (λ json. view json ≡ with_members allow.now shown reached.now (view reply)) }
 {
     if shown {
         let texts = member_texts(alloc, allow, reached)?;
@@ -121,7 +121,7 @@ fn shown_reply(
     outcome: &Outcome,
 ) -> Result<Json, AllocError>
     requires { list_all (flag allow.now.members) outcome.now.reached ≡ true }
-    ensures { IfOk result (λ reply. view reply ≡ shown_reply keys outcome.now.reached outcome.now.steps (search_reply_of kind outcome.now.end outcome.now.heap.objects)) }
+    ensures { IfOk result (λ reply. view reply ≡ shown_reply allow.now keys outcome.now.reached outcome.now.steps (search_reply_of kind outcome.now.end outcome.now.heap.objects)) }
 {
     let reply = search_reply(alloc, kind, &outcome.end, &outcome.heap)?;
     let reached = outcome.reached.as_slice();
@@ -138,8 +138,8 @@ fn shown_line(
     outcome: &Outcome,
 ) -> Result<Line, AllocError>
     requires { list_all (flag allow.now.members) outcome.now.reached ≡ true }
-    ensures text { IfOk result (λ line. string_bytes line.text ≡ line_of (shown_reply keys outcome.now.reached outcome.now.steps (search_reply_of kind outcome.now.end outcome.now.heap.objects))) }
-    ensures error { IfOk result (λ line. line.is_error ≡ is_error (shown_reply keys outcome.now.reached outcome.now.steps (search_reply_of kind outcome.now.end outcome.now.heap.objects))) }
+    ensures text { IfOk result (λ line. string_bytes line.text ≡ line_of (shown_reply allow.now keys outcome.now.reached outcome.now.steps (search_reply_of kind outcome.now.end outcome.now.heap.objects))) }
+    ensures error { IfOk result (λ line. line.is_error ≡ is_error (shown_reply allow.now keys outcome.now.reached outcome.now.steps (search_reply_of kind outcome.now.end outcome.now.heap.objects))) }
 {
     let json = shown_reply(alloc, allow, kind, keys, outcome)?;
     line_of_reply(alloc, &json)
@@ -154,8 +154,8 @@ pub fn shown_reply_line(
     outcome: &Outcome,
 ) -> Result<Line, AllocError>
     requires { list_all (flag allow.now.members) outcome.now.reached ≡ true }
-    ensures text { IfOk result (λ line. string_bytes line.text ≡ line_of (shown_reply keys outcome.now.reached outcome.now.steps (search_reply_of kind outcome.now.end outcome.now.heap.objects))) }
-    ensures error { IfOk result (λ line. line.is_error ≡ is_error (shown_reply keys outcome.now.reached outcome.now.steps (search_reply_of kind outcome.now.end outcome.now.heap.objects))) }
+    ensures text { IfOk result (λ line. string_bytes line.text ≡ line_of (shown_reply allow.now keys outcome.now.reached outcome.now.steps (search_reply_of kind outcome.now.end outcome.now.heap.objects))) }
+    ensures error { IfOk result (λ line. line.is_error ≡ is_error (shown_reply allow.now keys outcome.now.reached outcome.now.steps (search_reply_of kind outcome.now.end outcome.now.heap.objects))) }
 {
     if keys.members || keys.steps {
         shown_line(alloc, allow, kind, keys, outcome)

@@ -2,20 +2,22 @@
 use Rattle.std.proofs.Common.{◌≡◌, ℕ, ◌+◌, ◌-◌, ◌^◌, ◌<◌, ◌≤◌, ◌||◌, ◌⊎◌, Bool, true, false, List, [], ◌∷◌, ◌++◌, refl, sym, ap, subst, ◌∙◌, append_assoc, append-nil, inl, inr, arith}
 use Rattle.std.proofs.Math.Nat.{add_assoc, min-eq_left, min-eq_right}
 use Rattle.std.proofs.lemmas.Bool.{cases_order}
-use Rattle.std.specs.Prelude.{Option, min}
+use Rattle.std.specs.Prelude.{Option, Result, Ok, Err, OnOk, min}
 use Rattle.std.specs.Io.KnownBytes.{Appends}
 use Rattle.std.proofs.KnownBytes.{Appends-trans}
 use Rattle.outer_io.specs.Front.{AppendsFront}
 use Rattle.outer_io.specs.Lines.{InputLine}
-use Rattle.line_run.specs.Replies.{Reply, AreReplies, bytes_of, has_error, sum_of, steps_of}
-use Rattle.line_run.specs.Steps.{Gives}
+use Rattle.line_run.specs.declared.replies.Replies.{Replies}
+use Rattle.line_run.specs.Replies.{Reply, Talk, AreReplies, bytes_of, has_error, sum_of, steps_of}
+use Rattle.line_run.specs.Steps.{Adds, Gives}
 
-pub are_push : (gives : InputLine → Reply → Type 0) (lines : List InputLine) (replies : List Reply) (line : InputLine) (reply : Reply) → AreReplies gives lines replies → gives line reply
-    → AreReplies gives (lines ++ line ∷ []) (replies ++ reply ∷ [])
-are_push gives [] [] line reply are is = (is, tt)
-are_push gives (l ∷ lines) (r ∷ replies) line reply are is = (are.0, are_push gives lines replies line reply are.1 is)
-are_push gives [] (r ∷ replies) line reply are is = absurd are
-are_push gives (l ∷ lines) [] line reply are is = absurd are
+pub are_push : (talk : Talk) (before lines : List InputLine) (replies : List Reply) (line : InputLine) (reply : Reply) → AreReplies talk before lines replies → talk.says (before ++ lines) line reply
+    → AreReplies talk before (lines ++ line ∷ []) (replies ++ reply ∷ [])
+are_push talk before [] [] line reply are is = (subst (λ (l : List InputLine). talk.says l line reply) (append-nil before) is, tt)
+are_push talk before (l ∷ lines) (r ∷ replies) line reply are is =
+    (are.0, are_push talk (before ++ l ∷ []) lines replies line reply are.1 (subst (λ (m : List InputLine). talk.says m line reply) (sym (append_assoc before (l ∷ []) lines)) is))
+are_push talk before [] (r ∷ replies) line reply are is = absurd are
+are_push talk before (l ∷ lines) [] line reply are is = absurd are
 
 pub bytes_push : (replies : List Reply) (reply : Reply) → bytes_of (replies ++ reply ∷ []) ≡ bytes_of replies ++ reply.bytes
 bytes_push [] reply = append-nil reply.bytes
@@ -91,3 +93,9 @@ gives_all a b c x y first all =
 pub gives_whole : (a b : Option (List ℕ)) (x y : List ℕ) → Gives a b x y → y ≡ [] → Appends a b x
 gives_whole a b x y first none =
     subst (λ (l : List ℕ). Appends a b l) (sym (append-nil first.given) ∙ ap (λ (l : List ℕ). first.given ++ l) (sym none) ∙ first.parts) first.appended
+
+-- a reply that was put behind those that are held
+pub adds_so : {T E : Type 0} (Is : Reply → Type 0) (before now : Replies) (reply : Reply) (result : Result T E) → Is reply → OnOk result (now.bytes.items ≡ before.bytes.items ++ reply.bytes)
+    → OnOk result (now.any_error ≡ (before.any_error || reply.error)) → OnOk result (now.steps ≡ min (before.steps + reply.steps) (2 ^ 64 - 1)) → OnOk result (Adds Is before now)
+adds_so Is before now reply (Ok done) is bytes error steps = record { reply = reply; is = is; bytes = bytes; error = error; steps = steps }
+adds_so Is before now reply (Err error) is bytes at steps = tt

@@ -1,4 +1,5 @@
 pub mod Replies
 pub mod Shown
+pub mod Talking
 pub mod Passing
 pub mod Steps

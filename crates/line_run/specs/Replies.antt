@@ -1,5 +1,5 @@
--- What is told of an input: each of its lines has a reply, in their order.
-use Rattle.std.specs.Prelude.{◌≡◌, ℕ, ◌+◌, ◌-◌, ◌^◌, ◌≤◌, ◌||◌, Bool, false, List, [], ◌∷◌, ◌++◌, if◌then◌else◌, length, map, min, take, nat_le}
+-- What is told of an input: each of its lines has a reply, in their order, by the lines before it; and what stands behind the last one.
+use Rattle.std.specs.Prelude.{◌≡◌, ℕ, ◌+◌, ◌-◌, ◌^◌, ◌≤◌, ◌||◌, Bool, true, false, List, [], ◌∷◌, ◌++◌, if◌then◌else◌, length, map, min, take, nat_le}
 use Rattle.outer_io.specs.Lines.{InputLine, input_line, lines_of, ended_of}
 use Rattle.command_parts.specs.declared.status.Status.{Status}
 use Rattle.command_parts.specs.declared.status.Status.TheVariants as s
@@ -15,17 +15,26 @@ pub record Reply : Type 0 where
 abbrev pub no_reply : Reply
 no_reply = record { bytes = []; error = false; steps = 0 }
 
+-- A conversation over lines: what a line is told, given the lines before it, and what stands behind the last line, given all lines.
+pub record Talk : Type 1 where
+  pub says : List InputLine → InputLine → Reply → Type 0
+  pub ends : List InputLine → Reply → Type 0
+
+-- one that looks at no line before, and ends with nothing
+abbrev pub stateless : (InputLine → Reply → Type 0) → Talk
+stateless IsReply = record { says = λ before line reply. IsReply line reply; ends = λ lines reply. reply ≡ no_reply }
+
 -- what stands before the replies, and the listings of the codes that run
 pub record Front : Type 0 where
   pub bytes : List ℕ
   pub listings : List (List ℕ)
 
--- each line has its reply, in order
-abbrev pub AreReplies : (InputLine → Reply → Type 0) → List InputLine → List Reply → Type 0
-AreReplies IsReply [] [] = Unit {0}
-AreReplies IsReply (line ∷ lines) (reply ∷ replies) = IsReply line reply × AreReplies IsReply lines replies
-AreReplies IsReply [] (reply ∷ replies) = ⊥
-AreReplies IsReply (line ∷ lines) [] = ⊥
+-- each line has its reply, in order, behind the lines that were before
+abbrev pub AreReplies : Talk → List InputLine → List InputLine → List Reply → Type 0
+AreReplies talk before [] [] = Unit {0}
+AreReplies talk before (line ∷ lines) (reply ∷ replies) = talk.says before line reply × AreReplies talk (before ++ line ∷ []) lines replies
+AreReplies talk before [] (reply ∷ replies) = ⊥
+AreReplies talk before (line ∷ lines) [] = ⊥
 
 abbrev pub bytes_of : List Reply → List ℕ
 bytes_of [] = []
@@ -60,17 +69,27 @@ bytes_behind front replies = front.bytes ++ bytes_of replies
 abbrev pub whole_told : Front → List Reply → Told
 whole_told front replies = record { status = status_of (has_error replies); bytes = bytes_behind front replies; listings = front.listings; steps = steps_of replies }
 
--- .. or of one that is too long
-abbrev pub input_told : Front → ℕ → List ℕ → List Reply → Told
-input_told front limit input replies = if nat_le (length input) limit then whole_told front replies else uncounted s.InputLong (bytes_behind front replies)
+-- What is told of an input within its limit: the replies to its lines, and what stands behind the last one.
+abbrev pub TellsWhole : Talk → Front → List ℕ → Told → Type 0
+TellsWhole talk front input told =
+    (replies : List Reply) × AreReplies talk [] (map input_line (lines_of input)) replies × (last : Reply) × talk.ends (map input_line (lines_of input)) last
+    × (told ≡ whole_told front (replies ++ last ∷ []))
 
--- what is told of an input, by which reply each line has
-abbrev pub TellsInput : (InputLine → Reply → Type 0) → Front → ℕ → List ℕ → Told → Type 0
-TellsInput IsReply front limit input told =
-    (replies : List Reply) × AreReplies IsReply (lines_told limit input) replies × (told ≡ input_told front limit input replies)
+-- What is told of the bytes that were taken of one that does not come to its end: the replies of the lines whose newline is among them, and
+-- nothing behind them.
+abbrev pub TellsCut : Talk → Front → Status → List ℕ → Told → Type 0
+TellsCut talk front status taken told =
+    (replies : List Reply) × AreReplies talk [] (map input_line (ended_of taken)) replies × (told ≡ uncounted status (bytes_behind front replies))
 
--- What is told of the bytes that were taken before the source failed, which are no more than the limit allows: the replies of the lines
--- whose newline is among them.
-abbrev pub TellsTaken : (InputLine → Reply → Type 0) → Front → ℕ → List ℕ → Told → Type 0
-TellsTaken IsReply front limit taken told =
-    (length taken ≤ limit) × (replies : List Reply) × AreReplies IsReply (map input_line (ended_of taken)) replies × (told ≡ uncounted s.ReadFault (bytes_behind front replies))
+-- what is told of an input, by whether it is within its limit
+abbrev pub TellsBy : Bool → Talk → Front → ℕ → List ℕ → Told → Type 0
+TellsBy true talk front limit input told = TellsWhole talk front input told
+TellsBy false talk front limit input told = TellsCut talk front s.InputLong (take limit input) told
+
+-- what is told of an input
+abbrev pub TellsInput : Talk → Front → ℕ → List ℕ → Told → Type 0
+TellsInput talk front limit input told = TellsBy (nat_le (length input) limit) talk front limit input told
+
+-- what is told of the bytes that were taken before the source failed, which are no more than the limit allows
+abbrev pub TellsTaken : Talk → Front → ℕ → List ℕ → Told → Type 0
+TellsTaken talk front limit taken told = (length taken ≤ limit) × TellsCut talk front s.ReadFault taken told

@@ -5,7 +5,11 @@ mod passing;
 mod ran;
 mod replier;
 mod replies;
+mod stateless;
+mod talker;
 
 pub use passing::run_lines;
 pub use ran::Ran;
 pub use replier::{Replier, ReplyLine};
+pub use stateless::Stateless;
+pub use talker::Talker;

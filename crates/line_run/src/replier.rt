@@ -1,4 +1,4 @@
-//! What replies to lines.
+//! What replies to a line alone.
 
 ghost use Rattle.std.specs.Prelude.{IfOk};
 ghost use Rattle.outer_io.specs.Lines.{InputLine, Within, Beyond};
@@ -16,7 +16,7 @@ pub struct ReplyLine {
     pub steps: u64,
 }
 
-/// What replies to lines. No reply depends on a line before.
+/// What replies to lines. No reply depends on a line before; [`Stateless`](crate::Stateless) replies so to the lines of an input.
 pub trait Replier {
     /// The memory that is kept from one line to the next. What lies in it changes no reply.
     type Scratch: Drop;

@@ -10,11 +10,13 @@ ghost use Rattle.command_parts.specs.Writing.{IsWriteFault};
 ghost use Rattle.line_run.specs.Replies.{status_of};
 ghost use Rattle.line_run.specs.Shown.{reply_shown};
 ghost use Rattle.line_run.specs.Steps.{Adds, Gives, many};
+ghost use Rattle.line_run.specs.Talking.{Ends, Hears};
 
-use crate::replier::{Replier, ReplyLine};
+use crate::replier::ReplyLine;
+use crate::talker::Talker;
 use command_parts::{Status, write_bytes};
 use outer_io::{Line, LineReader, Sink};
-use std::alloc::AllocError;
+use std::alloc::{AllocError, Global};
 
 /// So many bytes of replies are given at once, where no more are wanted before.
 const FULL: usize = 65_536;
@@ -29,18 +31,18 @@ pub(crate) struct Replies {
 }
 
 /// The reply to a line.
-fn reply_to<R: Replier>(
-    replier: &R,
+fn reply_to<T: Talker>(
+    talker: &T,
     line: &Line,
-    scratch: &mut R::Scratch,
+    state: &mut T::State,
 ) -> Result<ReplyLine, AllocError>
-    requires ready { R.ready replier.now }
+    requires ready { T.ready talker.now }
     requires some { line.now ≢ Line.End }
-    ensures { IfOk result (λ reply. R.gives replier.now (line_shown line.now) (reply_shown reply)) }
+    ensures { IfOk result (λ reply. Hears (T.talk talker.now) (T.heard talker.now state.old) (T.heard talker.now state.new) (line_shown line.now) (reply_shown reply)) }
 {
     match line {
-        Line::Whole(bytes) => replier.reply(bytes.as_slice(), scratch),
-        Line::Long => replier.reply_to_long(),
+        Line::Whole(bytes) => talker.reply(bytes.as_slice(), state),
+        Line::Long => talker.reply_to_long(state),
         Line::End => unreachable!(),
     }
 }
@@ -83,22 +85,36 @@ impl Replies {
     }
 
     /// Puts the reply to a line behind the others.
-    pub(crate) fn add<R: Replier>(
+    pub(crate) fn add<T: Talker>(
         &mut self,
-        replier: &R,
+        talker: &T,
         line: &Line,
-        scratch: &mut R::Scratch,
+        state: &mut T::State,
     ) -> Result<(), AllocError>
-        requires ready { R.ready replier.now }
+        requires ready { T.ready talker.now }
         requires some { line.now ≢ Line.End }
-        ensures { OnOk result (Adds (R.gives replier.now) (line_shown line.now) self.old self.new) }
+        ensures { OnOk result (Adds (Hears (T.talk talker.now) (T.heard talker.now state.old) (T.heard talker.now state.new) (line_shown line.now)) self.old self.new) }
     {
-        let reply = reply_to(replier, line, scratch)?;
+        let reply = reply_to(talker, line, state)?;
+        self.push(reply)
+    }
+
+    /// Puts what stands behind the last line behind the others.
+    pub(crate) fn add_end<T: Talker>(
+        &mut self,
+        alloc: Global,
+        talker: &T,
+        state: T::State,
+    ) -> Result<(), AllocError>
+        requires ready { T.ready talker.now }
+        ensures { OnOk result (Adds (Ends (T.talk talker.now) (T.heard talker.now state)) self.old self.new) }
+    {
+        let reply = talker.end(alloc, state)?;
         self.push(reply)
     }
 
     /// Gives all replies to a sink.
-    fn give<K: Sink>(&mut self, out: &mut K) -> Result<(), Status>
+    pub(crate) fn give<K: Sink>(&mut self, out: &mut K) -> Result<(), Status>
         ensures whole { OnOk result (Gives (K.held out.old) (K.held out.new) self.old.bytes.items self.new.bytes.items) }
         ensures none { OnOk result (self.new.bytes.items ≡ []) }
         ensures front { AppendsFront (K.held out.old) (K.held out.new) self.old.bytes.items }

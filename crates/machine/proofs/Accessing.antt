@@ -14,7 +14,7 @@ use Rattle.def_access.specs.Laws.{IsConfined}
 use Rattle.def_access.specs.declared.accessed.Accessed.{Accessed}
 use Rattle.def_access.specs.declared.accessed.Accessed.TheVariants as said
 use Rattle.def_access.proofs.Confined.{index_read_confined, index_written_confined, method_called_confined, name_read_confined, name_written_confined}
-use Rattle.run_state.specs.World.{World, End, Limited, Limits, Room, acts_in}
+use Rattle.run_state.specs.World.{World, End, Limited, Limits, Room, not_told, acts_in}
 use Rattle.code_meaning.specs.declared.word.Word.{Word}
 use Rattle.code_meaning.specs.declared.word.Word.TheVariants.{R}
 use Rattle.code_meaning.specs.Machine.{Codes, Config, Ends, Frame, Goes, Next, on_access, on_done, on_found, on_outcome, on_put, on_write}
@@ -107,7 +107,7 @@ module _ (codes : Codes) (limits : Limits) (f : Frame) (below : List Frame) (w :
   -- where a member would be called there was no memory
   no_memory : (old : Store) → ((effect : Effect) → Comes (on_outcome codes limits (acts_in w effect) R f below w stack) said c) → (b : Next) → Comes b said c
   no_memory old k b =
-      either_way _ _ (Limited Room w) _ said c (filled codes limits R f below w stack NoRoom w refl) (k NoRoom) (gave codes limits R f below w stack (Gives v.Null old) w v.Null old (R v.Null) refl refl) (k (Gives v.Null old)) b
+      either_way _ _ (Limited Room not_told w) _ said c (filled codes limits R f below w stack NoRoom w refl) (k NoRoom) (gave codes limits R f below w stack (Gives v.Null old) w v.Null old (R v.Null) refl refl) (k (Gives v.Null old)) b
 
   pub of_acted : (access : Access) (answer : Answer) (old new : Store) → coming.ActsAs access old new answer
       → ((effect : Effect) → Answers effect old new answer → Comes (on_outcome codes limits (acts_in w effect) R f below w stack) said c)
@@ -120,7 +120,7 @@ module _ (codes : Codes) (limits : Limits) (f : Frame) (below : List Frame) (w :
 
   none_written : (old : Store) → ((effect : Effect) → Comes (on_done codes limits (acts_in w effect) f below w stack) said c) → (b : Next) → Comes b said c
   none_written old k b =
-      either_way _ _ (Limited Room w) _ said c (dropped_filled codes limits f below w stack NoRoom w refl) (k NoRoom) (dropped codes limits f below w stack (Gives v.Null old) w v.Null old refl) (k (Gives v.Null old)) b
+      either_way _ _ (Limited Room not_told w) _ said c (dropped_filled codes limits f below w stack NoRoom w refl) (k NoRoom) (dropped codes limits f below w stack (Gives v.Null old) w v.Null old refl) (k (Gives v.Null old)) b
 
   pub of_written : (access : Access) (answer : Answer) (old new : Store) → coming.ActsAs access old new answer
       → ((effect : Effect) → Answers effect old new answer → Comes (on_done codes limits (acts_in w effect) f below w stack) said c)

@@ -4,7 +4,7 @@ use Rattle.object_values.specs.declared.value.Value.{Value}
 use Rattle.object_values.specs.declared.value.Value.TheVariants as v
 use Rattle.object_heap.specs.Effects.{Effect, Gives, Throws, NoRoom}
 use Rattle.object_heap.specs.Store.{Store}
-use Rattle.run_state.specs.World.{World, Limits, Limited, Room, with_store, Given, Raised, Full, acts_in}
+use Rattle.run_state.specs.World.{World, Limits, Limited, Room, not_told, with_store, Given, Raised, Full, acts_in}
 use Rattle.code_meaning.specs.declared.word.Word.{Word}
 use Rattle.code_meaning.specs.declared.word.Word.TheVariants.{R}
 use Rattle.code_meaning.specs.Words.{unboxed}
@@ -54,10 +54,10 @@ module _ (codes : Codes) (limits : Limits) (word : Value → Word) (f : Frame) (
       ∙ ap (λ x. to_line f below (with_store w store) (suc f.line) (x ∷ stack)) (sym is)
 
   pub threw : (old : World) (id : ℕ) (store : Store) → effect ≡ Throws id store
-      → on_outcome codes limits (acts_in w effect) word f below old stack ≡ unwind codes (f ∷ below) id (with_store w store)
+      → on_outcome codes limits (acts_in w effect) word f below old stack ≡ unwind codes (f ∷ below) id not_told (with_store w store)
   threw old id store e = ap (λ e. on_outcome codes limits (acts_in w e) word f below old stack) e ∙ ap (λ o. on_outcome codes limits o word f below old stack) (acts_raised w id store)
 
-  pub filled : (old : World) → effect ≡ NoRoom → on_outcome codes limits (acts_in w effect) word f below old stack ≡ Ends (Limited Room old)
+  pub filled : (old : World) → effect ≡ NoRoom → on_outcome codes limits (acts_in w effect) word f below old stack ≡ Ends (Limited Room not_told old)
   filled old e = ap (λ e. on_outcome codes limits (acts_in w e) word f below old stack) e ∙ ap (λ o. on_outcome codes limits o word f below old stack) (acts_full w)
 
 -- what is thrown
@@ -65,10 +65,10 @@ module _ (codes : Codes) (limits : Limits) (f : Frame) (below : List Frame) (w :
   pub gave_none : (old : World) (value : Value) (store : Store) → effect ≡ Gives value store → on_thrown codes limits (acts_in w effect) f below old ≡ Stuck
   gave_none old value store e = ap (λ e. on_thrown codes limits (acts_in w e) f below old) e ∙ ap (λ o. on_thrown codes limits o f below old) (acts_given w value store)
 
-  pub threw_on : (old : World) (id : ℕ) (store : Store) → effect ≡ Throws id store → on_thrown codes limits (acts_in w effect) f below old ≡ unwind codes (f ∷ below) id (with_store w store)
+  pub threw_on : (old : World) (id : ℕ) (store : Store) → effect ≡ Throws id store → on_thrown codes limits (acts_in w effect) f below old ≡ unwind codes (f ∷ below) id not_told (with_store w store)
   threw_on old id store e = ap (λ e. on_thrown codes limits (acts_in w e) f below old) e ∙ ap (λ o. on_thrown codes limits o f below old) (acts_raised w id store)
 
-  pub filled_on : (old : World) → effect ≡ NoRoom → on_thrown codes limits (acts_in w effect) f below old ≡ Ends (Limited Room old)
+  pub filled_on : (old : World) → effect ≡ NoRoom → on_thrown codes limits (acts_in w effect) f below old ≡ Ends (Limited Room not_told old)
   filled_on old e = ap (λ e. on_thrown codes limits (acts_in w e) f below old) e ∙ ap (λ o. on_thrown codes limits o f below old) (acts_full w)
 
 -- what is given and dropped
@@ -76,8 +76,8 @@ module _ (codes : Codes) (limits : Limits) (f : Frame) (below : List Frame) (w :
   pub dropped : (old : World) (value : Value) (store : Store) → effect ≡ Gives value store → on_done codes limits (acts_in w effect) f below old stack ≡ to_line f below (with_store w store) (suc f.line) stack
   dropped old value store e = ap (λ e. on_done codes limits (acts_in w e) f below old stack) e ∙ ap (λ o. on_done codes limits o f below old stack) (acts_given w value store)
 
-  pub dropped_threw : (old : World) (id : ℕ) (store : Store) → effect ≡ Throws id store → on_done codes limits (acts_in w effect) f below old stack ≡ unwind codes (f ∷ below) id (with_store w store)
+  pub dropped_threw : (old : World) (id : ℕ) (store : Store) → effect ≡ Throws id store → on_done codes limits (acts_in w effect) f below old stack ≡ unwind codes (f ∷ below) id not_told (with_store w store)
   dropped_threw old id store e = ap (λ e. on_done codes limits (acts_in w e) f below old stack) e ∙ ap (λ o. on_done codes limits o f below old stack) (acts_raised w id store)
 
-  pub dropped_filled : (old : World) → effect ≡ NoRoom → on_done codes limits (acts_in w effect) f below old stack ≡ Ends (Limited Room old)
+  pub dropped_filled : (old : World) → effect ≡ NoRoom → on_done codes limits (acts_in w effect) f below old stack ≡ Ends (Limited Room not_told old)
   dropped_filled old e = ap (λ e. on_done codes limits (acts_in w e) f below old stack) e ∙ ap (λ o. on_done codes limits o f below old stack) (acts_full w)

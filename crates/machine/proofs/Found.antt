@@ -1,7 +1,5 @@
 -- Turns that find memory.
-use Rattle.std.proofs.Common.{◌≡◌, ℕ, true, false, List, Some, subst}
-use Rattle.allowlist.specs.Allow.{AllowList}
-use Rattle.pl_code.specs.declared.code.FunCode.{FunCode}
+use Rattle.std.proofs.Common.{◌≡◌, ℕ, true, false, Some, subst}
 use Rattle.code_meaning.specs.Machine.{Next, Goes, after}
 use Rattle.machine.specs.declared.configuration.Configuration.{Configuration}
 use Rattle.machine.specs.declared.configuration.Limits.{Limits}
@@ -10,7 +8,7 @@ use Rattle.machine.specs.declared.configuration.Step.TheVariants as said
 use Rattle.machine.specs.Activations.{Activation, now_of, turn_of, HasTurned, SparesFor}
 use Rattle.machine.specs.Memory.{HasMemory, RunSpares}
 use Rattle.machine_parts.specs.Rooms.{FitsAtStart, IsEnough}
-use Rattle.machine.specs.Seen.{configuration_of, limits_of, room_of, goes, codes_alone}
+use Rattle.machine.specs.Seen.{Executable, codes_in, limits_in, configuration_of, room_of, goes}
 
 pub has_turned : (last : Step) → HasMemory last → HasTurned (turn_of last)
 has_turned said.Goes h = tt
@@ -18,18 +16,18 @@ has_turned said.Ends h = tt
 has_turned said.Stuck h = tt
 has_turned said.NoMemory h = h
 
-module _ (code : List FunCode) (limits : Limits) (allow : AllowList) (frame q : ℕ) (c : Configuration) (last : Step) (steps : ℕ) where
+module _ (e : Executable) (limits : Limits) (q : ℕ) (c : Configuration) (last : Step) (steps : ℕ) where
   abbrev at : Activation
-  at = record { code = code; limits = limits; allow = allow; frame = frame; now = now_of last c; steps = steps }
+  at = record { executable = e; limits = limits; now = now_of last c; steps = steps }
 
   -- what an activation spares, its run spares
-  pub run_spares : goes last ≡ true → (FitsAtStart frame limits.depth → IsEnough frame limits.depth (room_of c)) → (a : Activation) → a ≡ at → SparesFor q a → RunSpares (codes_alone code) (limits_of limits allow) frame q c
+  pub run_spares : goes last ≡ true → (FitsAtStart e.frame limits.depth → IsEnough e limits.depth (room_of c)) → (a : Activation) → a ≡ at → SparesFor q a → RunSpares e (limits_in e limits) q c
   run_spares going enough a is spares =
       let s : SparesFor q at = subst (SparesFor q) is spares in
       let same : Goes (configuration_of c) ≡ s.next = begins last going s.next s.stands in
       record {
         enough = enough s.fits;
-        spares = λ k there less leads. s.spares k there less (subst (λ n. after (codes_alone code) (limits_of limits allow) k n ≡ Goes there) same leads);
+        spares = λ k there less leads. s.spares k there less (subst (λ n. after (codes_in e) (limits_in e limits) k n ≡ Goes there) same leads);
       } where
         begins : (last : Step) → goes last ≡ true → (next : Next) → now_of last c ≡ Some next → Goes (configuration_of c) ≡ next
         begins said.Goes going next stands = cc

@@ -43,15 +43,15 @@ module _ (codes : Codes) (limits : Limits) where
   pub stays : (m : ℕ) (e : RunEnd) (w : World) → after codes limits m (ended e w) ≡ ended e w
   stays zero e w = refl
   stays (suc m) (end.Result word) w = refl
-  stays (suc m) (end.Thrown id) w = refl
-  stays (suc m) (end.Limit which) w = refl
+  stays (suc m) (end.Thrown id place) w = refl
+  stays (suc m) (end.Limit which place) w = refl
   stays (suc m) end.Stuck w = refl
 
   pub none_taken : (m : ℕ) (e : RunEnd) (w : World) → steps_taken codes limits m (ended e w) ≡ 0
   none_taken zero e w = refl
   none_taken (suc m) (end.Result word) w = refl
-  none_taken (suc m) (end.Thrown id) w = refl
-  none_taken (suc m) (end.Limit which) w = refl
+  none_taken (suc m) (end.Thrown id place) w = refl
+  none_taken (suc m) (end.Limit which place) w = refl
   none_taken (suc m) end.Stuck w = refl
 
   -- the steps that are left stay at the end

@@ -3,7 +3,7 @@ use Rattle.std.proofs.Common.{◌≡◌, ℕ, zero, suc, ◌+◌, ◌-◌, ◌�
 use Rattle.run_state.specs.World.{Limits, End}
 use Rattle.code_meaning.specs.declared.word.Word.{Word}
 use Rattle.code_meaning.specs.Machine.{Next, Goes, Ends, Stuck, step, after, Codes}
-use Rattle.machine.specs.Seen.{limits_of, codes_alone}
+use Rattle.machine.specs.Seen.{limits_in, codes_in}
 use Rattle.machine.specs.Runs.{steps_taken}
 use Rattle.machine.specs.Activations.{Activation, counted, later}
 use Rattle.machine.specs.Laws.{TurnsAdd, ComesToItsEnd}
@@ -53,16 +53,16 @@ of_sum steps first second sum e = ap (λ n. counted (steps + n)) e ∙ counted_t
 
 module _ (a : Activation) (first second : ℕ) where
   abbrev made : ℕ → Option Next → Activation
-  made steps now = record { code = a.code; limits = a.limits; allow = a.allow; frame = a.frame; now = now; steps = steps }
+  made steps now = record { executable = a.executable; limits = a.limits; now = now; steps = steps }
 
   by_now : (now : Option Next) → a.now ≡ now → later (first + second) a ≡ later second (later first a)
   by_now None e = subst (λ now. later (first + second) (made a.steps now) ≡ later second (later first (made a.steps now))) (sym e) refl
   by_now (Some n) e =
       subst (λ now. later (first + second) (made a.steps now) ≡ later second (later first (made a.steps now))) (sym e)
-      (ap (λ next. made (counted (a.steps + steps_taken (codes_alone a.code) (limits_of a.limits a.allow) (first + second) n)) (Some next)) (adds (codes_alone a.code) (limits_of a.limits a.allow) first second n)
-      ∙ ap (λ steps. made steps (Some (after (codes_alone a.code) (limits_of a.limits a.allow) second (after (codes_alone a.code) (limits_of a.limits a.allow) first n))))
-      (of_sum a.steps (steps_taken (codes_alone a.code) (limits_of a.limits a.allow) first n) (steps_taken (codes_alone a.code) (limits_of a.limits a.allow) second (after (codes_alone a.code) (limits_of a.limits a.allow) first n))
-      (steps_taken (codes_alone a.code) (limits_of a.limits a.allow) (first + second) n) (taken_adds (codes_alone a.code) (limits_of a.limits a.allow) first second n)))
+      (ap (λ next. made (counted (a.steps + steps_taken (codes_in a.executable) (limits_in a.executable a.limits) (first + second) n)) (Some next)) (adds (codes_in a.executable) (limits_in a.executable a.limits) first second n)
+      ∙ ap (λ steps. made steps (Some (after (codes_in a.executable) (limits_in a.executable a.limits) second (after (codes_in a.executable) (limits_in a.executable a.limits) first n))))
+      (of_sum a.steps (steps_taken (codes_in a.executable) (limits_in a.executable a.limits) first n) (steps_taken (codes_in a.executable) (limits_in a.executable a.limits) second (after (codes_in a.executable) (limits_in a.executable a.limits) first n))
+      (steps_taken (codes_in a.executable) (limits_in a.executable a.limits) (first + second) n) (taken_adds (codes_in a.executable) (limits_in a.executable a.limits) first second n)))
 
 pub turns_add : TurnsAdd
 turns_add a first second = by_now a first second a.now refl
@@ -72,8 +72,8 @@ the_rest steps q h = omega arith
 
 pub comes_to_its_end : ComesToItsEnd
 comes_to_its_end a from steps q end stands ends h =
-    let codes = codes_alone a.code in
-    let limits = limits_of a.limits a.allow in
+    let codes = codes_in a.executable in
+    let limits = limits_in a.executable a.limits in
     let there : after codes limits q from ≡ Ends end =
     ap (λ n. after codes limits n from) (the_rest steps q h) ∙ adds codes limits steps (q - steps) from ∙ ap (after codes limits (q - steps)) ends ∙ end_stays codes limits (q - steps) end in
-    ap (λ now. (later q (record { code = a.code; limits = a.limits; allow = a.allow; frame = a.frame; now = now; steps = a.steps })).now) stands ∙ ap (λ next. Some next) there
+    ap (λ now. (later q (record { executable = a.executable; limits = a.limits; now = now; steps = a.steps })).now) stands ∙ ap (λ next. Some next) there

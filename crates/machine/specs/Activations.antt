@@ -1,7 +1,5 @@
 -- Activations: runs that stop between any two instructions and go on.
-use Rattle.std.specs.Prelude.{◌≡◌, ◌<◌, ℕ, ◌+◌, ◌-◌, ◌^◌, min, Bool, true, false, List, Option, Some, None, option_map, IsTrue, IsNone}
-use Rattle.allowlist.specs.Allow.{AllowList}
-use Rattle.pl_code.specs.declared.code.FunCode.{FunCode}
+use Rattle.std.specs.Prelude.{◌≡◌, ◌<◌, ℕ, ◌+◌, ◌-◌, ◌^◌, min, Bool, true, false, Option, Some, None, option_map, IsTrue, IsNone}
 use Rattle.code_meaning.specs.Machine.{Config, Next, Goes, Ends, Stuck, after}
 use Rattle.code_meaning.specs.Sizes.{IsWithin}
 use Rattle.machine_parts.specs.Rooms.{FitsAtStart}
@@ -13,16 +11,13 @@ use Rattle.machine.specs.declared.configuration.Limits.{Limits}
 use Rattle.machine.specs.declared.configuration.Step.{Step}
 use Rattle.machine.specs.declared.configuration.Step.TheVariants as step
 use Rattle.machine.specs.declared.activation.RunOutcome.{RunOutcome}
-use Rattle.machine.specs.Seen.{configuration_of, limits_of, world_of, ended, codes_alone}
+use Rattle.machine.specs.Seen.{configuration_of, limits_in, world_of, ended, Executable, codes_in}
 use Rattle.machine.specs.Runs.{steps_taken}
 
 pub record Activation : Type 0 where
-  pub code : List FunCode
+  -- the codes of both texts with their lists, and for how many words there is memory in each frame
+  pub executable : Executable
   pub limits : Limits
-  -- the members that may be called
-  pub allow : AllowList
-  -- for how many words there is memory in each frame
-  pub frame : ℕ
   -- where it stands; nothing after want of memory
   pub now : Option Next
   -- how many instructions were taken, as far as 64 bits count them
@@ -39,11 +34,11 @@ counted n = min n (2 ^ 64 - 1)
 
 abbrev pub steps_from : Activation → ℕ → Option Next → ℕ
 steps_from a q None = a.steps
-steps_from a q (Some n) = counted (a.steps + steps_taken (codes_alone a.code) (limits_of a.limits a.allow) q n)
+steps_from a q (Some n) = counted (a.steps + steps_taken (codes_in a.executable) (limits_in a.executable a.limits) q n)
 
 -- an activation after so many instructions more
 abbrev pub later : ℕ → Activation → Activation
-later q a = record { code = a.code; limits = a.limits; allow = a.allow; frame = a.frame; now = option_map (after (codes_alone a.code) (limits_of a.limits a.allow) q) a.now; steps = steps_from a q a.now }
+later q a = record { executable = a.executable; limits = a.limits; now = option_map (after (codes_in a.executable) (limits_in a.executable a.limits) q) a.now; steps = steps_from a q a.now }
 
 abbrev pub goes : Option Next → Bool
 goes None = false
@@ -68,8 +63,9 @@ Turned q old new turn.NoMemory = IsNone new.now
 pub record SparesFor (q : ℕ) (a : Activation) : Type 0 where
   pub next : Next
   pub stands : a.now ≡ Some next
-  pub fits : FitsAtStart a.frame a.limits.depth
-  pub spares : (k : ℕ) (c : Config) → k < q → after (codes_alone a.code) (limits_of a.limits a.allow) k next ≡ Goes c → Spares (codes_alone a.code) a.allow c × IsWithin a.frame a.limits.depth (codes_alone a.code) c
+  pub fits : FitsAtStart a.executable.frame a.limits.depth
+  pub spares : (k : ℕ) (c : Config) → k < q → after (codes_in a.executable) (limits_in a.executable a.limits) k next ≡ Goes c
+      → Spares (codes_in a.executable) (limits_in a.executable a.limits) c × IsWithin a.executable.frame a.limits.depth (codes_in a.executable) c
 
 -- a turn found memory
 abbrev pub HasTurned : Turn → Type 0

@@ -23,8 +23,8 @@ world_left o = record { store = o.heap; ticks = 0; reached = o.reached }
 -- Of a run that is stuck nothing is said.
 abbrev pub EndFits : Rules → List Object → World → RunEnd → Type 0
 EndFits rules before w (end.Result result) = WorldFits rules before w × ResultFits (count_in w) result
-EndFits rules before w (end.Thrown id) = WorldFits rules before w × ThrownFits w.store.objects id
-EndFits rules before w (end.Limit limit) = WorldFits rules before w
+EndFits rules before w (end.Thrown id place) = WorldFits rules before w × ThrownFits w.store.objects id
+EndFits rules before w (end.Limit limit place) = WorldFits rules before w
 EndFits rules before w end.Stuck = Unit {0}
 
 abbrev pub LeavesFit : Rules → List Object → RunOutcome → Type 0

@@ -8,6 +8,7 @@ pub mod Activations
 pub mod Fitting
 pub mod Laws
 -- Definitions of the libraries below that clauses here speak of, passed on.
+pub use Rattle.machine_parts.specs.Code
 pub use Rattle.machine_parts.specs.Links
 pub use Rattle.machine_parts.specs.Rooms
 pub use Rattle.machine_paths.specs.CodeRules

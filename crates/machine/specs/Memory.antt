@@ -1,6 +1,5 @@
 -- When a step takes no memory: what it does takes none, and there is room where words and frames lie.
 use Rattle.std.specs.Prelude.{◌≡◌, ◌≤◌, ◌<◌, ◌+◌, ℕ, length, List, Option, Some, None, slice_get}
-use Rattle.allowlist.specs.Index.{member_at}
 use Rattle.object_heap.specs.Store.{Store}
 use Rattle.object_values.specs.declared.object.Object.{Object}
 use Rattle.object_values.specs.declared.value.Value.{Value}
@@ -8,13 +7,12 @@ pub use Rattle.number_ops.specs.Outcomes.{IsAnswered}
 use Rattle.pl_code.specs.declared.code.FunCode.{FunCode}
 use Rattle.run_state.specs.World.{Limits}
 use Rattle.code_meaning.specs.declared.word.Word.{Word}
-use Rattle.code_meaning.specs.Machine.{Config, Goes, depth_of, after, Codes, code_in}
-use Rattle.code_meaning.specs.Members.{count_of}
+use Rattle.code_meaning.specs.Machine.{Config, Goes, depth_of, after, code_in}
 use Rattle.code_meaning.specs.Sizes.{IsWithin}
 use Rattle.machine.specs.Sparing.{EqualSpares, Spares}
 use Rattle.machine_parts.specs.Frames.{Laid}
-use Rattle.machine_parts.specs.Rooms.{IsEnough}
-use Rattle.machine.specs.Seen.{configuration_of, room_of}
+use Rattle.machine_parts.specs.Rooms.{ArgumentsWithin, IsEnough}
+use Rattle.machine.specs.Seen.{Executable, codes_in, configuration_of, room_of}
 use Rattle.machine.specs.declared.configuration.Configuration.{Configuration}
 use Rattle.machine.specs.declared.configuration.Step.{Step}
 use Rattle.machine.specs.declared.configuration.Step.TheVariants as step
@@ -67,14 +65,14 @@ CallFinds depth None s = Unit {0}
 CallFinds depth (Some g) s = (depth_of s.below < depth → s.count + length g.locals ≤ s.words) × (depth ≤ s.depth)
 
 -- There is room for what an instruction puts on the words, for the frame of a call, and for what a member takes.
-pub record HasSpace (codes : Codes) (depth : ℕ) (c : Configuration) : Type 0 where
+pub record HasSpace (e : Executable) (depth : ℕ) (c : Configuration) : Type 0 where
   pub words : c.frames.count + 2 ≤ c.frames.words
-  pub calls : (text : Owner) (k : ℕ) → CallFinds depth (slice_get (code_in codes text) k) c.frames
-  pub taken : (number : ℕ) → number < c.world.reached.room → count_of (member_at number) ≤ c.words.room
-  pub values : (number : ℕ) → number < c.world.reached.room → count_of (member_at number) ≤ c.values.room
+  pub calls : (text : Owner) (k : ℕ) → CallFinds depth (slice_get (code_in (codes_in e) text) k) c.frames
+  pub taken : ArgumentsWithin e c.words.room
+  pub values : ArgumentsWithin e c.values.room
 
 -- The next instructions, so many at most, take no memory, in frames that are within what was taken at the start.
-pub record RunSpares (codes : Codes) (limits : Limits) (frame count : ℕ) (c : Configuration) : Type 0 where
-  pub enough : IsEnough frame limits.depth (room_of c)
-  pub spares : (k : ℕ) (at : Config) → k < count → after codes limits k (Goes (configuration_of c)) ≡ Goes at
-      → Spares codes limits.ground.allowed at × IsWithin frame limits.depth codes at
+pub record RunSpares (e : Executable) (limits : Limits) (count : ℕ) (c : Configuration) : Type 0 where
+  pub enough : IsEnough e limits.depth (room_of c)
+  pub spares : (k : ℕ) (at : Config) → k < count → after (codes_in e) limits k (Goes (configuration_of c)) ≡ Goes at
+      → Spares (codes_in e) limits at × IsWithin e.frame limits.depth (codes_in e) at

@@ -1,13 +1,12 @@
 -- The machine's parts as the configurations of which the meaning of code speaks.
 use Rattle.std.specs.Prelude.{◌≡◌, ℤ, Bool, true, false, List, ◌∷◌, Option, Some, None}
-use Rattle.allowlist.specs.Allow.{AllowList}
 use Rattle.object_heap.specs.declared.outcome.Which.{Which}
 use Rattle.object_heap.specs.declared.outcome.Which.TheVariants as which
-use Rattle.run_state.specs.World.{World, Limit, Loop, Depth, Ticks, Room, Limits, Result, Uncaught, Limited}
+use Rattle.run_state.specs.World.{World, Limit, Loop, Depth, Ticks, Room, Ground, Limits, limits_over, Result, Uncaught, Limited}
 use Rattle.code_meaning.specs.declared.word.Word.{Word}
 use Rattle.code_meaning.specs.declared.word.Word.TheVariants.{I, J}
 use Rattle.code_meaning.specs.Machine.{Config, Next, Goes, Ends, Stuck}
-pub use Rattle.machine_parts.specs.Code.{Rules, codes_alone, limits_in}
+pub use Rattle.machine_parts.specs.Code.{Executable, codes_in, ground_in, text_of}
 pub use Rattle.machine_parts.specs.Frames.{with_stack}
 pub use Rattle.machine_parts.specs.Worlds.{world_of}
 use Rattle.machine_parts.specs.Rooms as rooms
@@ -25,11 +24,13 @@ configuration_of c = record { top = c.frames.top; below = c.frames.below; world 
 abbrev pub room_of : Configuration → rooms.Room
 room_of c = record { words = c.frames.words; frames = c.frames.depth; taken = c.words.room; values = c.values.room; reached = c.world.reached.room }
 
-abbrev pub rules_of : held_limits.Limits → AllowList → Rules
-rules_of l allow = record { loop = l.loops; depth = l.depth; allowed = allow }
+-- what a run is bound by and stands on
+abbrev pub limits_of : held_limits.Limits → Ground → Limits
+limits_of l g = limits_over l.loops l.depth g
 
-abbrev pub limits_of : held_limits.Limits → AllowList → Limits
-limits_of l allow = limits_in (rules_of l allow)
+-- the same of a run of what is ready to run
+abbrev pub limits_in : Executable → held_limits.Limits → Limits
+limits_in e l = limits_of l (ground_in e)
 
 abbrev pub limit_of : Which → Limit
 limit_of which.Loop = Loop
@@ -40,8 +41,8 @@ limit_of which.Room = Room
 -- a run that has ended in a world
 abbrev pub ended : held_end.RunEnd → World → Next
 ended (end.Result word) w = Ends (Result word w)
-ended (end.Thrown id) w = Ends (Uncaught id w)
-ended (end.Limit limit) w = Ends (Limited (limit_of limit) w)
+ended (end.Thrown id place) w = Ends (Uncaught id place w)
+ended (end.Limit limit place) w = Ends (Limited (limit_of limit) place w)
 ended end.Stuck w = Stuck
 
 abbrev pub goes : Step → Bool

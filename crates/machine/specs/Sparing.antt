@@ -4,7 +4,7 @@ use Rattle.pl_types.specs.declared.ty.Ty.{Ty}
 use Rattle.pl_types.specs.declared.ty.Ty.TheVariants as ty
 use Rattle.pl_types.specs.Texts.{type_of_full}
 use Rattle.allowlist.specs.Allow.{AllowList}
-use Rattle.allowlist.specs.Index.{member_at}
+use Rattle.allowlist.specs.Index.{member_in}
 use Rattle.allowlist.specs.declared.member.MemberType.{MemberType}
 use Rattle.object_values.specs.declared.value.Value.{Value}
 use Rattle.object_values.specs.declared.object.Object.{Object}
@@ -31,6 +31,7 @@ use Rattle.pl_code.specs.declared.kinds.Typed.TheVariants as typed
 use Rattle.machine.specs.declared.container_rows.Asked.{Asked}
 use Rattle.machine.specs.declared.container_rows.Asked.TheVariants as ask
 use Rattle.run_state.specs.Calls.{suits_member}
+use Rattle.run_state.specs.World.{Limits, allowed_in}
 use Rattle.code_meaning.specs.declared.word.Word.{Word}
 use Rattle.code_meaning.specs.declared.word.Word.TheVariants.{I, R}
 use Rattle.code_meaning.specs.Words.{Calculation, NoRow, Calculates, calculation, op_of_dynamic}
@@ -100,9 +101,9 @@ abbrev pub CallSpares : Option (List Word × List Word) → MemberType → ℕ �
 CallSpares None called number objects = Unit {0}
 CallSpares (Some p) called number objects = ReceivingSpares called (received called p.0) number objects
 
-abbrev pub MemberSpares : Option ℕ → List Word → List Object → Type 0
-MemberSpares None stack objects = Unit {0}
-MemberSpares (Some number) stack objects = CallSpares (take_words (count_of (member_at number)) stack []) (member_at number) number objects
+abbrev pub MemberSpares : AllowList → Option ℕ → List Word → List Object → Type 0
+MemberSpares allowed None stack objects = Unit {0}
+MemberSpares allowed (Some number) stack objects = CallSpares (take_words (count_of (member_in allowed number)) stack []) (member_in allowed number) number objects
 
 -- ---- lists, maps, arrays and iterators: what is given is there already, and no text
 
@@ -183,9 +184,9 @@ InstructionSpares allowed (i.Typed t of) f store = OnType (type_of_full of) (λ 
 InstructionSpares allowed (i.Sized s of n) f store = ⊥
 InstructionSpares allowed (i.Quoted kind text) f store = ⊥
 InstructionSpares allowed (i.DefCall name n) f store = ⊥
-InstructionSpares allowed (i.Invoke method) f store = MemberSpares (method_of allowed method) f.stack store.objects
-InstructionSpares allowed (i.New constructor) f store = MemberSpares (constructor_of allowed constructor) f.stack store.objects
-InstructionSpares allowed (i.Field field) f store = MemberSpares (field_of allowed field) f.stack store.objects
+InstructionSpares allowed (i.Invoke method) f store = MemberSpares allowed (method_of allowed method) f.stack store.objects
+InstructionSpares allowed (i.New constructor) f store = MemberSpares allowed (constructor_of allowed constructor) f.stack store.objects
+InstructionSpares allowed (i.Field field) f store = MemberSpares allowed (field_of allowed field) f.stack store.objects
 InstructionSpares allowed other f store = Unit {0}
 
 abbrev pub LineSpares : AllowList → Option Instruction → Frame → Store → Type 0
@@ -196,6 +197,6 @@ abbrev pub FunctionSpares : AllowList → Option FunCode → Frame → Store →
 FunctionSpares allowed None f store = Unit {0}
 FunctionSpares allowed (Some g) f store = LineSpares allowed (slice_get g.lines f.line) f store
 
--- the next instruction takes no memory
-abbrev pub Spares : Codes → AllowList → Config → Type 0
-Spares codes allowed c = FunctionSpares allowed (function_of codes c.top) c.top c.world.store
+-- the next instruction takes no memory, with the members that its text may call
+abbrev pub Spares : Codes → Limits → Config → Type 0
+Spares codes limits c = FunctionSpares (allowed_in limits c.top.text) (function_of codes c.top) c.top c.world.store

@@ -1,18 +1,17 @@
 //! A run of code that stops between any two instructions and goes on.
 ghost use Rattle.std.specs.Prelude.{◌≡◌, ◌≤◌, ◌++◌, [], List, map, min, Some, IfOk, IfSome};
-ghost use Rattle.object_heap.specs.Fits.{Rules as HeapRules};
 ghost use Rattle.object_values.specs.declared.object.Object.{Object as HeapObject};
+ghost use Rattle.machine_paths.specs.CodeRules.{rules_of_codes};
 ghost use Rattle.machine.specs.Fitting.{LeavesFit, NowFits};
 ghost use Rattle.machine_parts.specs.Rooms.{most_at_start};
 ghost use Rattle.object_values.specs.declared.object.Owner.TheVariants.{Script};
 ghost use Rattle.code_meaning.specs.Machine.{start};
 ghost use Rattle.code_meaning.specs.Words.{start_of};
 ghost use Rattle.machine.specs.Activations.{HasTurned, Leaves, SparesFor, Turned, turn_of};
-ghost use Rattle.machine.specs.Seen.{codes_alone, configuration_of};
+ghost use Rattle.machine.specs.Seen.{codes_in, configuration_of};
 
 use crate::configuration::{Configuration, Limits, RunEnd, Step};
 use crate::memory::RunMemory;
-use crate::rules::Rules;
 use crate::running::{Ran, run_on};
 use code_meaning::Word;
 use machine_parts::{
@@ -57,24 +56,24 @@ pub struct Finished {
 
 impl<'c> Model for Activation<'c> {
     ghost use Rattle.machine.specs.Activations.{Activation, now_of};
-    ghost use Rattle.machine_parts.specs.Rooms.{FitsAtStart, IsEnough};
+    ghost use Rattle.machine_parts.specs.Rooms.{FitsAtStart, IsEnough, MembersWithin};
     ghost use Rattle.machine.specs.Runs.{CountsFit};
     ghost use Rattle.machine.specs.Seen.{configuration_of, goes, room_of};
     ghost use Rattle.pl_types.specs.contracts.ty.Ty as ty;
     ghost use Rattle.std.specs.Coded.{codes};
-    ghost use Rattle.std.specs.Prelude.{◌≡◌, ◌≤◌, ◌<◌, ◌^◌, length, true};
+    ghost use Rattle.std.specs.Prelude.{◌≡◌, ◌<◌, ◌^◌, true};
 
     ghost Value = { Activation };
 
     ghost coded = { Prim.hlevel (codes, ty.the_row.coded) };
 
-    ghost view = { λ a. record { code = a.executable.now.code.functions; limits = a.limits; allow = a.executable.now.allow; frame = a.executable.now.frame; now = now_of a.last a.run; steps = a.steps } };
+    ghost view = { λ a. record { executable = a.executable.now; limits = a.limits; now = now_of a.last a.run; steps = a.steps } };
 
-    ghost invariant = { λ a. (a.steps < 2 ^ 64) × (FitsAtStart a.executable.now.frame a.limits.depth → IsEnough a.executable.now.frame a.limits.depth (room_of a.run)) × (goes a.last ≡ true → CountsFit (configuration_of a.run)) × (length a.executable.now.allow.members ≤ a.run.world.reached.room) };
+    ghost invariant = { λ a. (a.steps < 2 ^ 64) × (FitsAtStart a.executable.now.frame a.limits.depth → IsEnough a.executable.now a.limits.depth (room_of a.run)) × (goes a.last ≡ true → CountsFit (configuration_of a.run)) × MembersWithin a.executable.now a.run.world.reached.room };
 }
 
 impl<'c> Activation<'c> {
-    /// A run of function 0 on these arguments. Where there is no such function the run is stuck.
+    /// A run of function 0 of the script's code on these arguments. Where there is no such function the run is stuck.
     ///
     /// Memory is taken here for frames of calls as deep as the limit, each of as many words as the executable tells, for a call of a
     /// member, and for the list of members that were called. For frames it is memory for a million words and a million frames at most:
@@ -89,7 +88,7 @@ impl<'c> Activation<'c> {
         args: Elements<Word>,
         limits: Limits,
     ) -> Result<Activation<'c>, AllocError>
-        ensures { IfOk result (λ a. a ≡ record { code = executable.now.code.functions; limits = limits; allow = executable.now.allow; frame = executable.now.frame; now = Some (start (codes_alone executable.now.code.functions) args (record { store = heap; ticks = limits.ticks; reached = [] })); steps = 0 }) }
+        ensures { IfOk result (λ a. a ≡ record { executable = executable.now; limits = limits; now = Some (start (codes_in executable.now) args (record { store = heap; ticks = limits.ticks; reached = [] })); steps = 0 }) }
     {
         let memory = RunMemory::new(heap.alloc());
         Activation::start_in(executable, memory, heap, args, limits)
@@ -100,7 +99,7 @@ impl<'c> Activation<'c> {
     /// # Errors
     ///
     /// Want of memory. The memory that was given is given back to the system then.
-    #[tactic(auto, using(crate::proofs::Spaces::enough_at_start))]
+    #[tactic(auto, using(crate::proofs::Spaces::enough_at_start, crate::proofs::Spaces::members_at_start))]
     pub fn start_in(
         executable: &'c Executable,
         memory: RunMemory,
@@ -108,9 +107,9 @@ impl<'c> Activation<'c> {
         args: Elements<Word>,
         limits: Limits,
     ) -> Result<Activation<'c>, AllocError>
-        ensures { IfOk result (λ a. a ≡ record { code = executable.now.code.functions; limits = limits; allow = executable.now.allow; frame = executable.now.frame; now = Some (start (codes_alone executable.now.code.functions) args (record { store = heap; ticks = limits.ticks; reached = [] })); steps = 0 }) }
+        ensures { IfOk result (λ a. a ≡ record { executable = executable.now; limits = limits; now = Some (start (codes_in executable.now) args (record { store = heap; ticks = limits.ticks; reached = [] })); steps = 0 }) }
     {
-        let (slots, last) = match executable.code().functions.get(0) {
+        let (slots, last) = match executable.script().code().functions.get(0) {
             Some(main) => (main.locals.as_slice(), Step::Goes),
             None => (&[] as &[Slot], Step::Stuck),
         };
@@ -118,7 +117,7 @@ impl<'c> Activation<'c> {
         let run = configuration(
             memory,
             executable.arguments(),
-            executable.allow().member_count(),
+            executable.members(),
             heap,
             args,
             slots,
@@ -145,12 +144,7 @@ impl<'c> Activation<'c> {
         ensures memory { SparesFor q self.old → HasTurned result }
     {
         if self.last.goes() {
-            let rules = Rules::new(
-                self.limits,
-                self.executable.allow(),
-                self.executable.indexes(),
-            );
-            let Ran { last, steps } = run_on(&mut self.run, self.executable, &rules, q);
+            let Ran { last, steps } = run_on(&mut self.run, self.executable, &self.limits, q);
             self.last = last;
             self.steps = self.steps.saturating_add(steps);
             turn_of(self.last)
@@ -163,9 +157,9 @@ impl<'c> Activation<'c> {
     #[tactic(auto, using(crate::proofs::Fitted::left_fits))]
     pub fn outcome(self) -> Option<RunOutcome>
         ensures leaves { Leaves self.entry result }
-        // Where the start fits, each moment does (`code_fits`), and so does what is left: the heap, with each object of the start of its kind
-        // and of its class, and the end in it.
-        ensures fit { (rules : HeapRules) (before : List HeapObject) → NowFits rules before self.entry.now → IfSome result (LeavesFit rules before) }
+        // Where the start fits, by the rules of the code, each moment does (`code_fits`), and so does what is left: the heap, with each
+        // object of the start of its kind and of its class, and the end in it.
+        ensures fit { (before : List HeapObject) → NowFits (rules_of_codes (codes_in self.entry.executable)) before self.entry.now → IfSome result (LeavesFit (rules_of_codes (codes_in self.entry.executable)) before) }
     {
         let Finished {
             outcome,
@@ -178,7 +172,7 @@ impl<'c> Activation<'c> {
     #[tactic(auto, using(crate::proofs::Fitted::left_fits))]
     pub fn finish(self) -> Finished
         ensures leaves { Leaves self.entry result.outcome }
-        ensures fit { (rules : HeapRules) (before : List HeapObject) → NowFits rules before self.entry.now → IfSome result.outcome (LeavesFit rules before) }
+        ensures fit { (before : List HeapObject) → NowFits (rules_of_codes (codes_in self.entry.executable)) before self.entry.now → IfSome result.outcome (LeavesFit (rules_of_codes (codes_in self.entry.executable)) before) }
     {
         let Activation {
             executable: _,
@@ -227,7 +221,7 @@ impl<'c> Activation<'c> {
 fn configuration(
     memory: RunMemory,
     arguments: usize,
-    members: u32,
+    members: usize,
     heap: Heap,
     args: Elements<Word>,
     slots: &[Slot],
@@ -248,7 +242,7 @@ fn configuration(
     let frames = Frames::start(frames, args, slots, depth, words)?;
     let words = Words::with_room(taken, arguments)?;
     let values = Values::with_room(values, arguments)?;
-    let reached = Reached::with_room(alloc, members as usize)?;
+    let reached = Reached::with_room(alloc, members)?;
     Ok(Configuration {
         frames,
         world: World {

@@ -37,10 +37,20 @@ pub struct Configuration {
 pub enum RunEnd {
     /// It gives this, or nothing.
     Result(Option<Word>),
-    /// The number of the exception that was thrown.
-    Thrown(u32),
-    /// A limit that it would pass.
-    Limit(Which),
+    /// An exception was thrown.
+    Thrown {
+        /// Its number.
+        id: u32,
+        /// The byte of the script's text at which it arose, where it is told.
+        place: Option<u32>,
+    },
+    /// A limit would be passed.
+    Limit {
+        /// Which one.
+        limit: Which,
+        /// The byte of the script's text at which it arose, where it is told.
+        place: Option<u32>,
+    },
     /// No instruction fits where it stands. Code that was verified never comes here.
     Stuck,
 }
@@ -49,8 +59,14 @@ impl Drop for RunEnd {
     fn drop(self) {
         match self {
             RunEnd::Result(_word) => {}
-            RunEnd::Thrown(_id) => {}
-            RunEnd::Limit(_which) => {}
+            RunEnd::Thrown {
+                id: _id,
+                place: _place,
+            } => {}
+            RunEnd::Limit {
+                limit: _limit,
+                place: _place,
+            } => {}
             RunEnd::Stuck => {}
         }
     }
@@ -63,8 +79,14 @@ impl RunEnd {
     {
         match self {
             RunEnd::Result(word) => word,
-            RunEnd::Thrown(_id) => None,
-            RunEnd::Limit(_which) => None,
+            RunEnd::Thrown {
+                id: _id,
+                place: _place,
+            } => None,
+            RunEnd::Limit {
+                limit: _limit,
+                place: _place,
+            } => None,
             RunEnd::Stuck => None,
         }
     }

@@ -11,21 +11,20 @@ ghost use Rattle.code_meaning.specs.Members.{given_as, ints_in, references_in, t
 ghost use Rattle.code_meaning.specs.Members as members;
 ghost use Rattle.machine.specs.Memory.{HasMemory};
 ghost use Rattle.machine.specs.Rows.{asked, collected, on_place};
-ghost use Rattle.machine.specs.Seen.{Comes, room_of, with_stack, world_of, codes_alone, limits_in};
+ghost use Rattle.machine.specs.Seen.{Comes, room_of, with_stack, world_of, codes_in, limits_in};
 ghost use Rattle.machine.specs.Sparing.{AskSpares, ElementSpares, OnPlace, OnReference, OnValue};
 
-use crate::configuration::{Configuration, Step};
+use crate::configuration::{Configuration, Limits, Step};
 use crate::operands::pop_int;
 use crate::parts::{alike_of, ints_of, parts_off, references_of};
 use crate::receiving::taken;
-use crate::rules::Rules;
 use crate::throwing::{answered, answered_as, answered_done, answered_whole};
 use code_meaning::Word;
 use def_access::{
     array_filled, array_made, element_read, element_written, has_more, iterated, length_of,
     list_made, map_made, next_element,
 };
-use machine_parts::LinkedCode;
+use machine_parts::Executable;
 use object_values::{Elements, Value};
 use pl_code::Sized;
 use pl_types::Ty;
@@ -46,13 +45,13 @@ pub enum Asked {
 }
 
 /// An instruction on one reference, which is taken off the stack.
-pub fn ask(run: &mut Configuration, code: &LinkedCode, limits: &Rules<'_>, kind: Asked) -> Step
-    ensures exact { Comes (on_top run.old.frames.top.stack (λ word stack. on_reference word (λ value. asked (codes_alone code.now.functions) (limits_in limits.now) kind value run.old.frames.top run.old.frames.below (world_of run.old.world) stack))) result run.new }
+pub fn ask(run: &mut Configuration, executable: &Executable, limits: &Limits, kind: Asked) -> Step
+    ensures exact { Comes (on_top run.old.frames.top.stack (λ word stack. on_reference word (λ value. asked (codes_in executable.now) (limits_in executable.now limits.now) kind value run.old.frames.top run.old.frames.below (world_of run.old.world) stack))) result run.new }
     ensures memory { OnValue run.old.frames.top.stack (AskSpares kind run.old.world.heap) → run.old.frames.count ≤ run.old.frames.words → suc run.old.frames.top.line < 2 ^ 64 → HasMemory result }
     ensures room { room_of run.new ≡ room_of run.old }
 {
     match run.frames.pop() {
-        Some(word) => ask_word(run, code, limits, kind, &word),
+        Some(word) => ask_word(run, executable, limits, kind, &word),
         None => Step::Stuck,
     }
 }
@@ -60,17 +59,17 @@ pub fn ask(run: &mut Configuration, code: &LinkedCode, limits: &Rules<'_>, kind:
 // The same of a word that was taken off the stack.
 fn ask_word(
     run: &mut Configuration,
-    code: &LinkedCode,
-    limits: &Rules<'_>,
+    executable: &Executable,
+    limits: &Limits,
     kind: Asked,
     word: &Word,
 ) -> Step
-    ensures exact { (stack : List Word) → Comes (on_reference word.now (λ value. asked (codes_alone code.now.functions) (limits_in limits.now) kind value (with_stack run.old.frames.top stack) run.old.frames.below (world_of run.old.world) run.old.frames.top.stack)) result run.new }
+    ensures exact { (stack : List Word) → Comes (on_reference word.now (λ value. asked (codes_in executable.now) (limits_in executable.now limits.now) kind value (with_stack run.old.frames.top stack) run.old.frames.below (world_of run.old.world) run.old.frames.top.stack)) result run.new }
     ensures memory { OnReference word.now (AskSpares kind run.old.world.heap) → run.old.frames.count < run.old.frames.words → suc run.old.frames.top.line < 2 ^ 64 → HasMemory result }
     ensures room { room_of run.new ≡ room_of run.old }
 {
     match word {
-        Word::R(value) => ask_value(run, code, limits, kind, value),
+        Word::R(value) => ask_value(run, executable, limits, kind, value),
         _ => Step::Stuck,
     }
 }
@@ -78,31 +77,31 @@ fn ask_word(
 #[tactic(auto, using(crate::proofs::Spared::is_spared))]
 fn ask_value(
     run: &mut Configuration,
-    code: &LinkedCode,
-    limits: &Rules<'_>,
+    executable: &Executable,
+    limits: &Limits,
     kind: Asked,
     value: &Value,
 ) -> Step
-    ensures exact { (stack : List Word) → Comes (asked (codes_alone code.now.functions) (limits_in limits.now) kind value.now (with_stack run.old.frames.top stack) run.old.frames.below (world_of run.old.world) run.old.frames.top.stack) result run.new }
+    ensures exact { (stack : List Word) → Comes (asked (codes_in executable.now) (limits_in executable.now limits.now) kind value.now (with_stack run.old.frames.top stack) run.old.frames.below (world_of run.old.world) run.old.frames.top.stack) result run.new }
     ensures memory { AskSpares kind run.old.world.heap value.now → run.old.frames.count < run.old.frames.words → suc run.old.frames.top.line < 2 ^ 64 → HasMemory result }
     ensures room { room_of run.new ≡ room_of run.old }
 {
     match kind {
         Asked::Length => {
             let answer = length_of(&mut run.world.heap, value);
-            answered(run, code, limits, answer)
+            answered(run, executable, limits, answer)
         }
         Asked::Iterate => {
             let answer = iterated(&mut run.world.heap, value);
-            answered_whole(run, code, limits, answer)
+            answered_whole(run, executable, limits, answer)
         }
         Asked::HasMore => {
             let answer = has_more(&mut run.world.heap, value);
-            answered(run, code, limits, answer)
+            answered(run, executable, limits, answer)
         }
         Asked::Next => {
             let answer = next_element(&mut run.world.heap, value);
-            answered_whole(run, code, limits, answer)
+            answered_whole(run, executable, limits, answer)
         }
     }
 }
@@ -120,16 +119,16 @@ pub enum Collected {
 /// A list or a map of so many references, which are taken off the stack.
 pub fn collect(
     run: &mut Configuration,
-    code: &LinkedCode,
-    limits: &Rules<'_>,
+    executable: &Executable,
+    limits: &Limits,
     kind: Collected,
     count: usize,
 ) -> Step
-    ensures exact { Comes (on_words (spec.take_words count run.old.frames.top.stack []) (λ words stack. on_values (references_in words) (λ values. collected (codes_alone code.now.functions) (limits_in limits.now) kind values run.old.frames.top run.old.frames.below (world_of run.old.world) stack))) result run.new }
+    ensures exact { Comes (on_words (spec.take_words count run.old.frames.top.stack []) (λ words stack. on_values (references_in words) (λ values. collected (codes_in executable.now) (limits_in executable.now limits.now) kind values run.old.frames.top run.old.frames.below (world_of run.old.world) stack))) result run.new }
     ensures room { room_of run.new ≡ room_of run.old }
 {
     match parts_off(&mut run.frames, count, &mut run.words) {
-        Ok(true) => collect_words(run, code, limits, kind),
+        Ok(true) => collect_words(run, executable, limits, kind),
         Ok(false) => Step::Stuck,
         Err(_) => Step::NoMemory,
     }
@@ -138,15 +137,15 @@ pub fn collect(
 // The same of words that were taken off the stack.
 fn collect_words(
     run: &mut Configuration,
-    code: &LinkedCode,
-    limits: &Rules<'_>,
+    executable: &Executable,
+    limits: &Limits,
     kind: Collected,
 ) -> Step
-    ensures exact { (stack : List Word) → Comes (on_values (references_in run.old.words.items) (λ values. collected (codes_alone code.now.functions) (limits_in limits.now) kind values (with_stack run.old.frames.top stack) run.old.frames.below (world_of run.old.world) run.old.frames.top.stack)) result run.new }
+    ensures exact { (stack : List Word) → Comes (on_values (references_in run.old.words.items) (λ values. collected (codes_in executable.now) (limits_in executable.now limits.now) kind values (with_stack run.old.frames.top stack) run.old.frames.below (world_of run.old.world) run.old.frames.top.stack)) result run.new }
     ensures room { room_of run.new ≡ room_of run.old }
 {
     match references_of(run.world.heap.alloc(), &mut run.words) {
-        Ok(Some(values)) => collect_values(run, code, limits, kind, values),
+        Ok(Some(values)) => collect_values(run, executable, limits, kind, values),
         Ok(None) => Step::Stuck,
         Err(_) => Step::NoMemory,
     }
@@ -154,22 +153,22 @@ fn collect_words(
 
 fn collect_values(
     run: &mut Configuration,
-    code: &LinkedCode,
-    limits: &Rules<'_>,
+    executable: &Executable,
+    limits: &Limits,
     kind: Collected,
     values: Elements<Value>,
 ) -> Step
-    ensures exact { (stack : List Word) → Comes (collected (codes_alone code.now.functions) (limits_in limits.now) kind values (with_stack run.old.frames.top stack) run.old.frames.below (world_of run.old.world) run.old.frames.top.stack) result run.new }
+    ensures exact { (stack : List Word) → Comes (collected (codes_in executable.now) (limits_in executable.now limits.now) kind values (with_stack run.old.frames.top stack) run.old.frames.below (world_of run.old.world) run.old.frames.top.stack) result run.new }
     ensures room { room_of run.new ≡ room_of run.old }
 {
     match kind {
         Collected::List => {
             let answer = list_made(&mut run.world.heap, values.as_slice());
-            answered_whole(run, code, limits, answer)
+            answered_whole(run, executable, limits, answer)
         }
         Collected::Map => {
             let answer = map_made(&mut run.world.heap, values.as_slice());
-            answered_whole(run, code, limits, answer)
+            answered_whole(run, executable, limits, answer)
         }
     }
 }
@@ -177,14 +176,19 @@ fn collect_values(
 // ---- elements of arrays
 
 /// The element of an array as of a type, by the index on the stack.
-pub fn load_element(run: &mut Configuration, code: &LinkedCode, limits: &Rules<'_>, of: &Ty) -> Step
-    ensures exact { Comes (on_place run.old.frames.top.stack (λ at array stack. on_outcome (codes_alone code.now.functions) (limits_in limits.now) (acts_in (world_of run.old.world) (elements.element_read run.old.world.heap of.now array at)) (given_as of.now) run.old.frames.top run.old.frames.below (world_of run.old.world) stack)) result run.new }
+pub fn load_element(
+    run: &mut Configuration,
+    executable: &Executable,
+    limits: &Limits,
+    of: &Ty,
+) -> Step
+    ensures exact { Comes (on_place run.old.frames.top.stack (λ at array stack. on_outcome (codes_in executable.now) (limits_in executable.now limits.now) (acts_in (world_of run.old.world) (elements.element_read run.old.world.heap of.now array at)) (given_as of.now) run.old.frames.top run.old.frames.below (world_of run.old.world) stack)) result run.new }
     ensures memory { OnPlace run.old.frames.top.stack (ElementSpares run.old.world.heap of.now) → run.old.frames.count ≤ run.old.frames.words → suc run.old.frames.top.line < 2 ^ 64 → HasMemory result }
     ensures room { room_of run.new ≡ room_of run.old }
 {
     match pop_int(&mut run.frames) {
         Some(at) => match run.frames.pop() {
-            Some(array) => load_from(run, code, limits, of, &array, at),
+            Some(array) => load_from(run, executable, limits, of, &array, at),
             None => Step::Stuck,
         },
         None => Step::Stuck,
@@ -194,20 +198,20 @@ pub fn load_element(run: &mut Configuration, code: &LinkedCode, limits: &Rules<'
 #[tactic(auto, using(crate::proofs::Spared::is_spared))]
 fn load_from(
     run: &mut Configuration,
-    code: &LinkedCode,
-    limits: &Rules<'_>,
+    executable: &Executable,
+    limits: &Limits,
     of: &Ty,
     array: &Word,
     at: i32,
 ) -> Step
-    ensures exact { (stack : List Word) → Comes (on_reference array.now (λ array. on_outcome (codes_alone code.now.functions) (limits_in limits.now) (acts_in (world_of run.old.world) (elements.element_read run.old.world.heap of.now array at)) (given_as of.now) (with_stack run.old.frames.top stack) run.old.frames.below (world_of run.old.world) run.old.frames.top.stack)) result run.new }
+    ensures exact { (stack : List Word) → Comes (on_reference array.now (λ array. on_outcome (codes_in executable.now) (limits_in executable.now limits.now) (acts_in (world_of run.old.world) (elements.element_read run.old.world.heap of.now array at)) (given_as of.now) (with_stack run.old.frames.top stack) run.old.frames.below (world_of run.old.world) run.old.frames.top.stack)) result run.new }
     ensures memory { OnReference array.now (λ array. ElementSpares run.old.world.heap of.now at array) → run.old.frames.count < run.old.frames.words → suc run.old.frames.top.line < 2 ^ 64 → HasMemory result }
     ensures room { room_of run.new ≡ room_of run.old }
 {
     match array {
         Word::R(array) => {
             let answer = element_read(&mut run.world.heap, of, array, at);
-            answered_as(run, code, limits, of, answer)
+            answered_as(run, executable, limits, of, answer)
         }
         _ => Step::Stuck,
     }
@@ -216,16 +220,16 @@ fn load_from(
 /// Puts the value on the stack into an array of a type, by the index below it.
 pub fn store_element(
     run: &mut Configuration,
-    code: &LinkedCode,
-    limits: &Rules<'_>,
+    executable: &Executable,
+    limits: &Limits,
     of: &Ty,
 ) -> Step
-    ensures exact { Comes (on_top run.old.frames.top.stack (λ third more. on_value (members.taken of.now third) (λ value. on_place more (λ at array stack. on_done (codes_alone code.now.functions) (limits_in limits.now) (acts_in (world_of run.old.world) (elements.element_written run.old.world.heap of.now array at value)) run.old.frames.top run.old.frames.below (world_of run.old.world) stack)))) result run.new }
+    ensures exact { Comes (on_top run.old.frames.top.stack (λ third more. on_value (members.taken of.now third) (λ value. on_place more (λ at array stack. on_done (codes_in executable.now) (limits_in executable.now limits.now) (acts_in (world_of run.old.world) (elements.element_written run.old.world.heap of.now array at value)) run.old.frames.top run.old.frames.below (world_of run.old.world) stack)))) result run.new }
     ensures room { room_of run.new ≡ room_of run.old }
 {
     match run.frames.pop() {
         Some(word) => match taken(of, word) {
-            Some(value) => store_value(run, code, limits, of, value),
+            Some(value) => store_value(run, executable, limits, of, value),
             None => Step::Stuck,
         },
         None => Step::Stuck,
@@ -234,17 +238,17 @@ pub fn store_element(
 
 fn store_value(
     run: &mut Configuration,
-    code: &LinkedCode,
-    limits: &Rules<'_>,
+    executable: &Executable,
+    limits: &Limits,
     of: &Ty,
     value: Value,
 ) -> Step
-    ensures exact { (stack : List Word) → Comes (on_place run.old.frames.top.stack (λ at array rest. on_done (codes_alone code.now.functions) (limits_in limits.now) (acts_in (world_of run.old.world) (elements.element_written run.old.world.heap of.now array at value)) (with_stack run.old.frames.top stack) run.old.frames.below (world_of run.old.world) rest)) result run.new }
+    ensures exact { (stack : List Word) → Comes (on_place run.old.frames.top.stack (λ at array rest. on_done (codes_in executable.now) (limits_in executable.now limits.now) (acts_in (world_of run.old.world) (elements.element_written run.old.world.heap of.now array at value)) (with_stack run.old.frames.top stack) run.old.frames.below (world_of run.old.world) rest)) result run.new }
     ensures room { room_of run.new ≡ room_of run.old }
 {
     match pop_int(&mut run.frames) {
         Some(at) => match run.frames.pop() {
-            Some(array) => store_in(run, code, limits, of, value, &array, at),
+            Some(array) => store_in(run, executable, limits, of, value, &array, at),
             None => Step::Stuck,
         },
         None => Step::Stuck,
@@ -253,20 +257,20 @@ fn store_value(
 
 fn store_in(
     run: &mut Configuration,
-    code: &LinkedCode,
-    limits: &Rules<'_>,
+    executable: &Executable,
+    limits: &Limits,
     of: &Ty,
     value: Value,
     array: &Word,
     at: i32,
 ) -> Step
-    ensures exact { (stack : List Word) → Comes (on_reference array.now (λ array. on_done (codes_alone code.now.functions) (limits_in limits.now) (acts_in (world_of run.old.world) (elements.element_written run.old.world.heap of.now array at value)) (with_stack run.old.frames.top stack) run.old.frames.below (world_of run.old.world) run.old.frames.top.stack)) result run.new }
+    ensures exact { (stack : List Word) → Comes (on_reference array.now (λ array. on_done (codes_in executable.now) (limits_in executable.now limits.now) (acts_in (world_of run.old.world) (elements.element_written run.old.world.heap of.now array at value)) (with_stack run.old.frames.top stack) run.old.frames.below (world_of run.old.world) run.old.frames.top.stack)) result run.new }
     ensures room { room_of run.new ≡ room_of run.old }
 {
     match array {
         Word::R(array) => {
             let answer = element_written(&mut run.world.heap, of, array, at, value);
-            answered_done(run, code, limits, answer)
+            answered_done(run, executable, limits, answer)
         }
         _ => Step::Stuck,
     }
@@ -277,19 +281,19 @@ fn store_in(
 /// An array of elements that lie on the stack, or with sizes that lie there.
 pub fn sized(
     run: &mut Configuration,
-    code: &LinkedCode,
-    limits: &Rules<'_>,
+    executable: &Executable,
+    limits: &Limits,
     kind: Sized,
     of: &Ty,
     count: usize,
 ) -> Step
-    ensures exact { Comes (spec.sized_act (codes_alone code.now.functions) (limits_in limits.now) kind of.now count run.old.frames.top run.old.frames.below (world_of run.old.world)) result run.new }
+    ensures exact { Comes (spec.sized_act (codes_in executable.now) (limits_in executable.now limits.now) kind of.now count run.old.frames.top run.old.frames.below (world_of run.old.world)) result run.new }
     ensures room { room_of run.new ≡ room_of run.old }
 {
     match parts_off(&mut run.frames, count, &mut run.words) {
         Ok(true) => match kind {
-            Sized::Filled => fill_words(run, code, limits, of),
-            Sized::Empty => make_words(run, code, limits, of),
+            Sized::Filled => fill_words(run, executable, limits, of),
+            Sized::Empty => make_words(run, executable, limits, of),
         },
         Ok(false) => Step::Stuck,
         Err(_) => Step::NoMemory,
@@ -297,28 +301,28 @@ pub fn sized(
 }
 
 // Of words that were taken off the stack.
-fn fill_words(run: &mut Configuration, code: &LinkedCode, limits: &Rules<'_>, of: &Ty) -> Step
-    ensures exact { (stack : List Word) → Comes (on_values (taken_alike of.now run.old.words.items) (λ items. on_outcome (codes_alone code.now.functions) (limits_in limits.now) (acts_in (world_of run.old.world) (making.array_filled run.old.world.heap of.now items)) R (with_stack run.old.frames.top stack) run.old.frames.below (world_of run.old.world) run.old.frames.top.stack)) result run.new }
+fn fill_words(run: &mut Configuration, executable: &Executable, limits: &Limits, of: &Ty) -> Step
+    ensures exact { (stack : List Word) → Comes (on_values (taken_alike of.now run.old.words.items) (λ items. on_outcome (codes_in executable.now) (limits_in executable.now limits.now) (acts_in (world_of run.old.world) (making.array_filled run.old.world.heap of.now items)) R (with_stack run.old.frames.top stack) run.old.frames.below (world_of run.old.world) run.old.frames.top.stack)) result run.new }
     ensures room { room_of run.new ≡ room_of run.old }
 {
     match alike_of(run.world.heap.alloc(), of, &mut run.words) {
         Ok(Some(items)) => {
             let answer = array_filled(&mut run.world.heap, of, items.as_slice());
-            answered_whole(run, code, limits, answer)
+            answered_whole(run, executable, limits, answer)
         }
         Ok(None) => Step::Stuck,
         Err(_) => Step::NoMemory,
     }
 }
 
-fn make_words(run: &mut Configuration, code: &LinkedCode, limits: &Rules<'_>, of: &Ty) -> Step
-    ensures exact { (stack : List Word) → Comes (on_ints (ints_in run.old.words.items) (λ sizes. on_outcome (codes_alone code.now.functions) (limits_in limits.now) (acts_in (world_of run.old.world) (making.array_made run.old.world.heap of.now sizes)) R (with_stack run.old.frames.top stack) run.old.frames.below (world_of run.old.world) run.old.frames.top.stack)) result run.new }
+fn make_words(run: &mut Configuration, executable: &Executable, limits: &Limits, of: &Ty) -> Step
+    ensures exact { (stack : List Word) → Comes (on_ints (ints_in run.old.words.items) (λ sizes. on_outcome (codes_in executable.now) (limits_in executable.now limits.now) (acts_in (world_of run.old.world) (making.array_made run.old.world.heap of.now sizes)) R (with_stack run.old.frames.top stack) run.old.frames.below (world_of run.old.world) run.old.frames.top.stack)) result run.new }
     ensures room { room_of run.new ≡ room_of run.old }
 {
     match ints_of(run.world.heap.alloc(), &mut run.words) {
         Ok(Some(sizes)) => {
             let answer = array_made(&mut run.world.heap, of, sizes.as_slice());
-            answered_whole(run, code, limits, answer)
+            answered_whole(run, executable, limits, answer)
         }
         Ok(None) => Step::Stuck,
         Err(_) => Step::NoMemory,

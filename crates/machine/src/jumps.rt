@@ -2,18 +2,17 @@
 ghost use Rattle.std.specs.Prelude.{◌≡◌, ◌<◌, ◌+◌, ◌^◌, ◌∷◌, suc, slice_get, slice_set};
 ghost use Rattle.code_meaning.specs.Machine.{numbered_act, on_local, on_top, on_turn, to_line, Goes, code_in, on_int, unless_zero};
 ghost use Rattle.run_state.specs.World.{take_turn};
-ghost use Rattle.machine.specs.Seen.{Comes, room_of, world_of, codes_alone, limits_in};
+ghost use Rattle.machine.specs.Seen.{Comes, room_of, world_of, codes_in, limits_in};
 ghost use Rattle.machine.specs.Sparing.{LocalBare, NumberedSpares};
 ghost use Rattle.machine.specs.Memory.{CallFinds, HasMemory};
 
 use crate::calls::call;
-use crate::configuration::{Configuration, RunEnd, Step};
+use crate::configuration::{Configuration, Limits, RunEnd, Step};
 use crate::container_rows::{Collected, collect};
 use crate::operands::pop_int;
 use crate::references::jump_if_null;
-use crate::rules::Rules;
 use code_meaning::Word;
-use machine_parts::{LinkedCode, copy_of};
+use machine_parts::{Executable, copy_of};
 use object_heap::Which;
 use pl_code::Numbered;
 use std::mem::forget;
@@ -23,14 +22,14 @@ use std::mem::forget;
 #[tactic(auto, using(crate::proofs::Rows::no_int))]
 pub fn numbered(
     run: &mut Configuration,
-    code: &LinkedCode,
-    limits: &Rules<'_>,
+    executable: &Executable,
+    limits: &Limits,
     kind: Numbered,
     number: u32,
 ) -> Step
     requires { run.old.frames.top.turns + run.old.world.ticks < 2 ^ 64 }
-    ensures exact { Comes (numbered_act (codes_alone code.now.functions) (limits_in limits.now) kind number run.old.frames.top run.old.frames.below (world_of run.old.world)) result run.new }
-    ensures memory { NumberedSpares kind number run.old.frames.top.locals → CallFinds limits.now.depth (slice_get (code_in (codes_alone code.now.functions) run.old.frames.top.text) number) run.old.frames → run.old.frames.count < run.old.frames.words → suc run.old.frames.top.line < 2 ^ 64 → HasMemory result }
+    ensures exact { Comes (numbered_act (codes_in executable.now) (limits_in executable.now limits.now) kind number run.old.frames.top run.old.frames.below (world_of run.old.world)) result run.new }
+    ensures memory { NumberedSpares kind number run.old.frames.top.locals → CallFinds limits.now.depth (slice_get (code_in (codes_in executable.now) run.old.frames.top.text) number) run.old.frames → run.old.frames.count < run.old.frames.words → suc run.old.frames.top.line < 2 ^ 64 → HasMemory result }
     ensures room { room_of run.new ≡ room_of run.old }
 {
     match kind {
@@ -48,13 +47,13 @@ pub fn numbered(
             None => Step::Stuck,
         },
         Numbered::IfNull => jump_if_null(run, number),
-        Numbered::Loop => match run.frames.function_at(code, run.frames.fun()) {
-            Some(function) => repeat(run, code, limits, function.loops, number),
+        Numbered::Loop => match executable.function_at(&run.frames, run.frames.fun()) {
+            Some(function) => repeat(run, executable, limits, function.loops, number),
             None => Step::Stuck,
         },
-        Numbered::List => collect(run, code, limits, Collected::List, number as usize),
-        Numbered::Map => collect(run, code, limits, Collected::Map, 2 * number as usize),
-        Numbered::Call => call(run, code, limits, number),
+        Numbered::List => collect(run, executable, limits, Collected::List, number as usize),
+        Numbered::Map => collect(run, executable, limits, Collected::Map, 2 * number as usize),
+        Numbered::Call => call(run, executable, limits, number),
     }
 }
 
@@ -136,19 +135,19 @@ fn put(run: &mut Configuration, number: usize, word: Word) -> Step
 #[inline(always)]
 fn repeat(
     run: &mut Configuration,
-    code: &LinkedCode,
-    limits: &Rules<'_>,
+    executable: &Executable,
+    limits: &Limits,
     limited: bool,
     line: u32,
 ) -> Step
     requires { run.old.frames.top.turns + run.old.world.ticks < 2 ^ 64 }
-    ensures exact { Comes (on_top run.old.frames.top.stack (λ word stack. on_int word (λ a. unless_zero a (on_turn (codes_alone code.now.functions) (limits_in limits.now) (take_turn (limits_in limits.now) limited run.old.frames.top.turns (world_of run.old.world)) line run.old.frames.top run.old.frames.below (world_of run.old.world) stack) (to_line run.old.frames.top run.old.frames.below (world_of run.old.world) (suc run.old.frames.top.line) stack)))) result run.new }
+    ensures exact { Comes (on_top run.old.frames.top.stack (λ word stack. on_int word (λ a. unless_zero a (on_turn (codes_in executable.now) (limits_in executable.now limits.now) (take_turn (limits_in executable.now limits.now) limited run.old.frames.top.turns (world_of run.old.world)) line run.old.frames.top run.old.frames.below (world_of run.old.world) stack) (to_line run.old.frames.top run.old.frames.below (world_of run.old.world) (suc run.old.frames.top.line) stack)))) result run.new }
     ensures memory { suc run.old.frames.top.line < 2 ^ 64 → HasMemory result }
     ensures room { room_of run.new ≡ room_of run.old }
 {
     match pop_int(&mut run.frames) {
         Some(0) => run.goes_on(),
-        Some(_) => turn(run, code, limits, limited, line),
+        Some(_) => turn(run, executable, limits, limited, line),
         None => Step::Stuck,
     }
 }
@@ -158,23 +157,29 @@ fn repeat(
 #[tactic(auto, unfolding(run_state::specs::World::take_turn, run_state::specs::World::pay_tick))]
 fn turn(
     run: &mut Configuration,
-    code: &LinkedCode,
-    limits: &Rules<'_>,
+    executable: &Executable,
+    limits: &Limits,
     limited: bool,
     line: u32,
 ) -> Step
     requires { run.old.frames.top.turns + run.old.world.ticks < 2 ^ 64 }
-    ensures exact { Comes (on_turn (codes_alone code.now.functions) (limits_in limits.now) (take_turn (limits_in limits.now) limited run.old.frames.top.turns (world_of run.old.world)) line run.old.frames.top run.old.frames.below (world_of run.old.world) run.old.frames.top.stack) result run.new }
+    ensures exact { Comes (on_turn (codes_in executable.now) (limits_in executable.now limits.now) (take_turn (limits_in executable.now limits.now) limited run.old.frames.top.turns (world_of run.old.world)) line run.old.frames.top run.old.frames.below (world_of run.old.world) run.old.frames.top.stack) result run.new }
     ensures memory { HasMemory result }
     ensures room { room_of run.new ≡ room_of run.old }
 {
     let turns = run.frames.turns();
-    if limited && turns >= limits.loops() {
-        run.end = RunEnd::Limit(Which::Loop);
+    if limited && turns >= limits.loops {
+        run.end = RunEnd::Limit {
+            limit: Which::Loop,
+            place: None,
+        };
         return Step::Ends;
     }
     if run.world.ticks == 0 {
-        run.end = RunEnd::Limit(Which::Ticks);
+        run.end = RunEnd::Limit {
+            limit: Which::Ticks,
+            place: None,
+        };
         return Step::Ends;
     }
     run.world.ticks -= 1;

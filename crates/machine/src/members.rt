@@ -3,38 +3,38 @@ ghost use Rattle.std.specs.Prelude.{◌≡◌, ◌≤◌, ◌<◌, ◌+◌, ◌^
 ghost use Rattle.def_access.specs.Members.{does};
 ghost use Rattle.def_access.specs.Answers.{NeedsMemory};
 ghost use Rattle.machine.specs.Sparing.{CallSpares, MemberSpares, ReceivingSpares};
-ghost use Rattle.machine_parts.specs.Links.{link_at, member_in};
+ghost use Rattle.machine_parts.specs.Links.{link_at, linked_member};
+ghost use Rattle.machine_parts.specs.Rooms.{MembersWithin};
 ghost use Rattle.code_meaning.specs.declared.word.Word.{Word};
 ghost use Rattle.number_ops.specs.Outcomes.{effect, null_error};
 ghost use Rattle.run_state.specs.Calls.{suits_member, wrong_class};
 ghost use Rattle.run_state.specs.World.{acts_in, pay_member};
 ghost use Rattle.code_meaning.specs.Members.{Receives, count_of, given_as, received};
-ghost use Rattle.allowlist.specs.Index.{member_at};
+ghost use Rattle.allowlist.specs.Index.{member_in};
 ghost use Rattle.machine.specs.Memory.{HasMemory, HasSpace, OnlyToMake};
 ghost use Rattle.code_meaning.specs.Machine as spec;
-ghost use Rattle.machine.specs.Seen.{Comes, room_of, with_stack, world_of, codes_alone, limits_in};
+ghost use Rattle.machine.specs.Seen.{Comes, room_of, with_stack, world_of, codes_in, limits_in, text_of};
 ghost use Rattle.machine.specs.Rows.{beside};
 ghost use Rattle.machine.specs.Members.{filled, receiving_of};
 ghost use Rattle.pl_types.specs.Host.{no_host};
 
-use crate::configuration::{Configuration, RunEnd, Step};
+use crate::configuration::{Configuration, Limits, RunEnd, Step};
 use crate::paying::pay_member;
 use crate::receiving::{Receiving, received};
-use crate::rules::Rules;
 use crate::suiting::suits_member;
 use crate::throwing::answered_as;
 use allowlist::MemberType;
 use code_meaning::Word;
-use machine_parts::{Executable, Frames, Link, LinkedCode, Words, count_of};
+use machine_parts::{Executable, Frames, Link, Words, count_of};
 use object_heap::throw;
 use pl_types::classes::{CLASS_CAST_EXCEPTION, NULL_POINTER_EXCEPTION};
 use std::alloc::AllocError;
 
 /// What the member does that the instruction names: a method is called, a value made by a constructor, or a field read.
-pub fn named(run: &mut Configuration, executable: &Executable, limits: &Rules<'_>) -> Step
-    requires reached { length executable.now.allow.members ≤ run.old.world.reached.room }
-    ensures exact { Comes (spec.member_act (codes_alone executable.now.code.functions) (limits_in limits.now) (member_in (link_at executable.now run.old.frames.top)) run.old.frames.top run.old.frames.below (world_of run.old.world)) result run.new }
-    ensures memory { MemberSpares (member_in (link_at executable.now run.old.frames.top)) run.old.frames.top.stack run.old.world.heap.objects → HasSpace (codes_alone executable.now.code.functions) limits.now.depth run.old → suc run.old.frames.top.line < 2 ^ 64 → HasMemory result }
+pub fn named(run: &mut Configuration, executable: &Executable, limits: &Limits) -> Step
+    requires reached { MembersWithin executable.now run.old.world.reached.room }
+    ensures exact { Comes (spec.member_act (codes_in executable.now) (limits_in executable.now limits.now) (text_of executable.now run.old.frames.top.text).allow (linked_member (link_at executable.now run.old.frames.top)) run.old.frames.top run.old.frames.below (world_of run.old.world)) result run.new }
+    ensures memory { MemberSpares (text_of executable.now run.old.frames.top.text).allow (linked_member (link_at executable.now run.old.frames.top)) run.old.frames.top.stack run.old.world.heap.objects → HasSpace executable.now limits.now.depth run.old → suc run.old.frames.top.line < 2 ^ 64 → HasMemory result }
     ensures room { room_of run.new ≡ room_of run.old }
 {
     match executable.link(&run.frames) {
@@ -47,33 +47,33 @@ pub fn named(run: &mut Configuration, executable: &Executable, limits: &Rules<'_
 fn call_numbered(
     run: &mut Configuration,
     executable: &Executable,
-    limits: &Rules<'_>,
+    limits: &Limits,
     number: u32,
 ) -> Step
-    requires listed { number < length executable.now.allow.members }
-    requires room { number < run.old.world.reached.room }
-    ensures exact { Comes (spec.member_act (codes_alone executable.now.code.functions) (limits_in limits.now) (Some number) run.old.frames.top run.old.frames.below (world_of run.old.world)) result run.new }
-    ensures memory { CallSpares (spec.take_words (count_of (member_at number)) run.old.frames.top.stack []) (member_at number) number run.old.world.heap.objects → HasSpace (codes_alone executable.now.code.functions) limits.now.depth run.old → suc run.old.frames.top.line < 2 ^ 64 → HasMemory result }
+    requires listed { number < length (text_of executable.now run.old.frames.top.text).allow.members }
+    requires reached { MembersWithin executable.now run.old.world.reached.room }
+    ensures exact { Comes (spec.member_act (codes_in executable.now) (limits_in executable.now limits.now) (text_of executable.now run.old.frames.top.text).allow (Some number) run.old.frames.top run.old.frames.below (world_of run.old.world)) result run.new }
+    ensures memory { CallSpares (spec.take_words (count_of (member_in (text_of executable.now run.old.frames.top.text).allow number)) run.old.frames.top.stack []) (member_in (text_of executable.now run.old.frames.top.text).allow number) number run.old.world.heap.objects → HasSpace executable.now limits.now.depth run.old → suc run.old.frames.top.line < 2 ^ 64 → HasMemory result }
     ensures room { room_of run.new ≡ room_of run.old }
 {
-    let called = executable.allow().member_type(number);
-    call_member(run, executable.linked(), limits, number, called)
+    let called = executable.member(&run.frames, number);
+    call_member(run, executable, limits, number, called)
 }
 
 fn call_member(
     run: &mut Configuration,
-    code: &LinkedCode,
-    limits: &Rules<'_>,
+    executable: &Executable,
+    limits: &Limits,
     number: u32,
     called: &MemberType,
 ) -> Step
     requires { number < run.old.world.reached.room }
-    ensures exact { Comes (spec.on_words (spec.take_words (count_of called.now) run.old.frames.top.stack []) (λ words stack. spec.on_received (codes_alone code.now.functions) (limits_in limits.now) (received called.now words) number called.now run.old.frames.top run.old.frames.below (world_of run.old.world) stack)) result run.new }
+    ensures exact { Comes (spec.on_words (spec.take_words (count_of called.now) run.old.frames.top.stack []) (λ words stack. spec.on_received (codes_in executable.now) (limits_in executable.now limits.now) (received called.now words) number called.now run.old.frames.top run.old.frames.below (world_of run.old.world) stack)) result run.new }
     ensures memory { CallSpares (spec.take_words (count_of called.now) run.old.frames.top.stack []) called.now number run.old.world.heap.objects → count_of called.now ≤ run.old.words.room → count_of called.now ≤ run.old.values.room → run.old.frames.count < run.old.frames.words → suc run.old.frames.top.line < 2 ^ 64 → HasMemory result }
     ensures room { room_of run.new ≡ room_of run.old }
 {
     match words_of(&mut run.frames, &mut run.words, called) {
-        Ok(true) => call_with(run, code, limits, number, called),
+        Ok(true) => call_with(run, executable, limits, number, called),
         Ok(false) => Step::Stuck,
         Err(_) => Step::NoMemory,
     }
@@ -117,18 +117,18 @@ pub(crate) fn take_words(
 // A call with words that were taken off the stack.
 fn call_with(
     run: &mut Configuration,
-    code: &LinkedCode,
-    limits: &Rules<'_>,
+    executable: &Executable,
+    limits: &Limits,
     number: u32,
     called: &MemberType,
 ) -> Step
     requires { number < run.old.world.reached.room }
-    ensures exact { (stack : List Word) → Comes (spec.on_received (codes_alone code.now.functions) (limits_in limits.now) (received called.now run.old.words.items) number called.now (with_stack run.old.frames.top stack) run.old.frames.below (world_of run.old.world) run.old.frames.top.stack) result run.new }
+    ensures exact { (stack : List Word) → Comes (spec.on_received (codes_in executable.now) (limits_in executable.now limits.now) (received called.now run.old.words.items) number called.now (with_stack run.old.frames.top stack) run.old.frames.below (world_of run.old.world) run.old.frames.top.stack) result run.new }
     ensures memory { ReceivingSpares called.now (received called.now run.old.words.items) number run.old.world.heap.objects → length run.old.words.items ≤ run.old.values.room → run.old.frames.count < run.old.frames.words → suc run.old.frames.top.line < 2 ^ 64 → HasMemory result }
     ensures room { room_of run.new ≡ room_of run.old }
 {
     match received(called, &mut run.words, &mut run.values) {
-        Ok(receiving) => call_on(run, code, limits, number, called, receiving),
+        Ok(receiving) => call_on(run, executable, limits, number, called, receiving),
         Err(_) => Step::NoMemory,
     }
 }
@@ -136,24 +136,24 @@ fn call_with(
 // A receiver that is null throws before the call is paid; a field is read without a tick.
 fn call_on(
     run: &mut Configuration,
-    code: &LinkedCode,
-    limits: &Rules<'_>,
+    executable: &Executable,
+    limits: &Limits,
     number: u32,
     called: &MemberType,
     receiving: Receiving,
 ) -> Step
     requires { number < run.old.world.reached.room }
-    ensures exact { (stack : List Word) → Comes (spec.on_received (codes_alone code.now.functions) (limits_in limits.now) (receiving_of receiving run.old.values.items) number called.now (with_stack run.old.frames.top stack) run.old.frames.below (world_of run.old.world) run.old.frames.top.stack) result run.new }
+    ensures exact { (stack : List Word) → Comes (spec.on_received (codes_in executable.now) (limits_in executable.now limits.now) (receiving_of receiving run.old.values.items) number called.now (with_stack run.old.frames.top stack) run.old.frames.below (world_of run.old.world) run.old.frames.top.stack) result run.new }
     ensures memory { ReceivingSpares called.now (receiving_of receiving run.old.values.items) number run.old.world.heap.objects → run.old.frames.count < run.old.frames.words → suc run.old.frames.top.line < 2 ^ 64 → HasMemory result }
     ensures room { room_of run.new ≡ room_of run.old }
 {
     match receiving {
         Receiving::Unfit => Step::Stuck,
-        Receiving::OnNull => on_null(run, code, limits, called),
-        Receiving::Receives => test_and_pay(run, code, limits, number, called),
+        Receiving::OnNull => on_null(run, executable, limits, called),
+        Receiving::Receives => test_and_pay(run, executable, limits, number, called),
         Receiving::Reads => {
             run.values.clear();
-            act(run, code, limits, number, called)
+            act(run, executable, limits, number, called)
         }
     }
 }
@@ -162,35 +162,35 @@ fn call_on(
 #[tactic(auto, using(crate::proofs::Spared::only_to_make))]
 fn on_null(
     run: &mut Configuration,
-    code: &LinkedCode,
-    limits: &Rules<'_>,
+    executable: &Executable,
+    limits: &Limits,
     called: &MemberType,
 ) -> Step
-    ensures exact { (stack : List Word) → Comes (spec.on_outcome (codes_alone code.now.functions) (limits_in limits.now) (acts_in (world_of run.old.world) (effect run.old.world.heap null_error)) (given_as called.now.result) (with_stack run.old.frames.top stack) run.old.frames.below (world_of run.old.world) run.old.frames.top.stack) result run.new }
+    ensures exact { (stack : List Word) → Comes (spec.on_outcome (codes_in executable.now) (limits_in executable.now limits.now) (acts_in (world_of run.old.world) (effect run.old.world.heap null_error)) (given_as called.now.result) (with_stack run.old.frames.top stack) run.old.frames.below (world_of run.old.world) run.old.frames.top.stack) result run.new }
     ensures memory { run.old.frames.count < run.old.frames.words → suc run.old.frames.top.line < 2 ^ 64 → OnlyToMake run.old.world.heap run.new.world.heap result }
     ensures room { room_of run.new ≡ room_of run.old }
 {
     let thrown = throw(&mut run.world.heap, NULL_POINTER_EXCEPTION, None);
-    answered_as(run, code, limits, &called.result, thrown)
+    answered_as(run, executable, limits, &called.result, thrown)
 }
 
 // A receiver or an argument of another class throws before the call is paid.
 fn test_and_pay(
     run: &mut Configuration,
-    code: &LinkedCode,
-    limits: &Rules<'_>,
+    executable: &Executable,
+    limits: &Limits,
     number: u32,
     called: &MemberType,
 ) -> Step
     requires { number < run.old.world.reached.room }
-    ensures exact { (stack : List Word) → Comes (spec.on_tested (codes_alone code.now.functions) (limits_in limits.now) (suits_member run.old.world.heap.objects called.now run.old.values.items) number run.old.values.items called.now (with_stack run.old.frames.top stack) run.old.frames.below (world_of run.old.world) run.old.frames.top.stack) result run.new }
+    ensures exact { (stack : List Word) → Comes (spec.on_tested (codes_in executable.now) (limits_in executable.now limits.now) (suits_member run.old.world.heap.objects called.now run.old.values.items) number run.old.values.items called.now (with_stack run.old.frames.top stack) run.old.frames.below (world_of run.old.world) run.old.frames.top.stack) result run.new }
     ensures memory { suits_member run.old.world.heap.objects called.now run.old.values.items ≡ true → (NeedsMemory run.old.world.heap.objects number run.old.values.items → ⊥) → run.old.frames.count < run.old.frames.words → suc run.old.frames.top.line < 2 ^ 64 → HasMemory result }
     ensures room { room_of run.new ≡ room_of run.old }
 {
     if suits_member(&run.world.heap, called, run.values.as_slice()) {
-        pay_and_act(run, code, limits, number, called)
+        pay_and_act(run, executable, limits, number, called)
     } else {
-        on_wrong_class(run, code, limits, called)
+        on_wrong_class(run, executable, limits, called)
     }
 }
 
@@ -198,34 +198,37 @@ fn test_and_pay(
 #[tactic(auto, using(crate::proofs::Spared::only_to_make))]
 fn on_wrong_class(
     run: &mut Configuration,
-    code: &LinkedCode,
-    limits: &Rules<'_>,
+    executable: &Executable,
+    limits: &Limits,
     called: &MemberType,
 ) -> Step
-    ensures exact { (stack : List Word) → Comes (spec.on_outcome (codes_alone code.now.functions) (limits_in limits.now) (acts_in (world_of run.old.world) (effect run.old.world.heap wrong_class)) (given_as called.now.result) (with_stack run.old.frames.top stack) run.old.frames.below (world_of run.old.world) run.old.frames.top.stack) result run.new }
+    ensures exact { (stack : List Word) → Comes (spec.on_outcome (codes_in executable.now) (limits_in executable.now limits.now) (acts_in (world_of run.old.world) (effect run.old.world.heap wrong_class)) (given_as called.now.result) (with_stack run.old.frames.top stack) run.old.frames.below (world_of run.old.world) run.old.frames.top.stack) result run.new }
     ensures memory { run.old.frames.count < run.old.frames.words → suc run.old.frames.top.line < 2 ^ 64 → OnlyToMake run.old.world.heap run.new.world.heap result }
     ensures room { room_of run.new ≡ room_of run.old }
 {
     let thrown = throw(&mut run.world.heap, CLASS_CAST_EXCEPTION, None);
-    answered_as(run, code, limits, &called.result, thrown)
+    answered_as(run, executable, limits, &called.result, thrown)
 }
 
 fn pay_and_act(
     run: &mut Configuration,
-    code: &LinkedCode,
-    limits: &Rules<'_>,
+    executable: &Executable,
+    limits: &Limits,
     number: u32,
     called: &MemberType,
 ) -> Step
     requires { number < run.old.world.reached.room }
-    ensures exact { (stack : List Word) → Comes (spec.on_paid (codes_alone code.now.functions) (limits_in limits.now) (pay_member run.old.frames.top.text number (world_of run.old.world)) number run.old.values.items called.now (with_stack run.old.frames.top stack) run.old.frames.below run.old.frames.top.stack) result run.new }
+    ensures exact { (stack : List Word) → Comes (spec.on_paid (codes_in executable.now) (limits_in executable.now limits.now) (pay_member run.old.frames.top.text number (world_of run.old.world)) number run.old.values.items called.now (with_stack run.old.frames.top stack) run.old.frames.below run.old.frames.top.stack) result run.new }
     ensures memory { (NeedsMemory run.old.world.heap.objects number run.old.values.items → ⊥) → run.old.frames.count < run.old.frames.words → suc run.old.frames.top.line < 2 ^ 64 → HasMemory result }
     ensures room { room_of run.new ≡ room_of run.old }
 {
     match pay_member(&mut run.world, run.frames.text(), number) {
-        Ok(None) => act(run, code, limits, number, called),
+        Ok(None) => act(run, executable, limits, number, called),
         Ok(Some(which)) => {
-            run.end = RunEnd::Limit(which);
+            run.end = RunEnd::Limit {
+                limit: which,
+                place: None,
+            };
             Step::Ends
         }
         Err(_) => Step::NoMemory,
@@ -236,17 +239,17 @@ fn pay_and_act(
 #[tactic(auto, using(crate::proofs::Spared::is_answered))]
 fn act(
     run: &mut Configuration,
-    code: &LinkedCode,
-    limits: &Rules<'_>,
+    executable: &Executable,
+    limits: &Limits,
     number: u32,
     called: &MemberType,
 ) -> Step
-    ensures exact { (stack : List Word) → Comes (spec.on_act (codes_alone code.now.functions) (limits_in limits.now) (does no_host number run.old.values.items run.old.world.heap) called.now (with_stack run.old.frames.top stack) run.old.frames.below (world_of run.old.world) run.old.frames.top.stack) result run.new }
+    ensures exact { (stack : List Word) → Comes (spec.on_act (codes_in executable.now) (limits_in executable.now limits.now) (does no_host number run.old.values.items run.old.world.heap) called.now (with_stack run.old.frames.top stack) run.old.frames.below (world_of run.old.world) run.old.frames.top.stack) result run.new }
     ensures memory { (NeedsMemory run.old.world.heap.objects number run.old.values.items → ⊥) → run.old.frames.count < run.old.frames.words → suc run.old.frames.top.line < 2 ^ 64 → HasMemory result }
     ensures room { room_of run.new ≡ room_of run.old }
 {
     match def_access::call(number, &mut run.world.heap, run.values.as_slice()) {
-        Some(answer) => answered_as(run, code, limits, &called.result, answer),
+        Some(answer) => answered_as(run, executable, limits, &called.result, answer),
         None => Step::Stuck,
     }
 }

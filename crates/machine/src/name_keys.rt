@@ -52,7 +52,7 @@ pub fn name_put_found(
 ) -> Accessed
     requires listed { NameListed allow.now found }
     requires shared { shared.now ≡ units name.now }
-    ensures { Comes (name_written_by heap.old receiver.now name.now value.old found) heap.old heap.new receiver.now (value.new ∷ []) result }
+    ensures { Comes (name_written_by allow.now heap.old receiver.now name.now value.old found) heap.old heap.new receiver.now (value.new ∷ []) result }
 {
     match found {
         Some(NameAccess::Key(number)) => {
@@ -72,7 +72,7 @@ fn write_key(
     number: u32,
 ) -> Accessed
     requires { shared.now ≡ units name.now }
-    ensures { Comes (name_written_by heap.old receiver.now name.now value.old (Some (NameAccess.Key number))) heap.old heap.new receiver.now (value.new ∷ []) result }
+    ensures { Comes (name_written_by allow.now heap.old receiver.now name.now value.old (Some (NameAccess.Key number))) heap.old heap.new receiver.now (value.new ∷ []) result }
 {
     if !is_built(number) {
         let found = Some(NameAccess::Key(number));

@@ -1,25 +1,24 @@
 //! Instructions on the stack alone: constants, copies and casts of numbers.
-ghost use Rattle.std.specs.Prelude.{◌≡◌, ◌≤◌, ◌<◌, ◌+◌, ◌^◌, ◌∷◌, false, Some, None, MatchOption, length, suc};
-ghost use Rattle.object_values.specs.declared.object.Owner.TheVariants.{Script};
+ghost use Rattle.std.specs.Prelude.{◌≡◌, ◌≤◌, ◌<◌, ◌+◌, ◌^◌, ◌∷◌, false, Some, None, MatchOption, suc};
 ghost use Rattle.pl_code.specs.declared.kinds.Plain.TheVariants as plains;
 ghost use Rattle.code_meaning.specs.declared.word.Word.TheVariants.{I, J};
 ghost use Rattle.code_meaning.specs.Machine as spec;
 ghost use Rattle.code_meaning.specs.Machine.{plain_act, on_stack, to_line};
 ghost use Rattle.machine_parts.specs.Frames.{OnlyStack};
-ghost use Rattle.machine.specs.Seen.{Comes, int_of, long_of, room_of, world_of, codes_alone, limits_in};
+ghost use Rattle.machine_parts.specs.Rooms.{MembersWithin};
+ghost use Rattle.machine.specs.Seen.{Comes, int_of, long_of, room_of, world_of, codes_in, limits_in};
 ghost use Rattle.machine.specs.Rows.{Copies};
 ghost use Rattle.machine.specs.Sparing.{CopySpares, OneBare, PlainSpares, TwoBare, is_text};
 ghost use Rattle.machine.specs.Memory.{HasMemory, IsCopied};
 
 use crate::access_rows::{get_index, put_index};
 use crate::calls::ret;
-use crate::configuration::{Configuration, Step};
+use crate::configuration::{Configuration, Limits, Step};
 use crate::container_rows::{Asked, ask};
 use crate::references::{Pairing, pair};
-use crate::rules::Rules;
 use crate::throwing::throw_top;
 use code_meaning::Word;
-use machine_parts::{Frames, LinkedCode, copy_of};
+use machine_parts::{Executable, Frames, copy_of};
 use number_ops::{low_byte, low_char, low_int, low_short};
 use object_values::Value;
 use pl_code::Plain;
@@ -28,10 +27,9 @@ use std::mem::forget;
 /// An instruction without operands.
 #[inline(always)]
 #[tactic(auto, using(crate::proofs::Rows::no_int, crate::proofs::Rows::no_long))]
-pub fn plain(run: &mut Configuration, code: &LinkedCode, limits: &Rules<'_>, kind: Plain) -> Step
-    requires script { run.old.frames.top.text ≡ Script }
-    requires reached { length limits.now.allowed.members ≤ run.old.world.reached.room }
-    ensures exact { Comes (plain_act (codes_alone code.now.functions) (limits_in limits.now) kind run.old.frames.top run.old.frames.below (world_of run.old.world)) result run.new }
+pub fn plain(run: &mut Configuration, executable: &Executable, limits: &Limits, kind: Plain) -> Step
+    requires reached { MembersWithin executable.now run.old.world.reached.room }
+    ensures exact { Comes (plain_act (codes_in executable.now) (limits_in executable.now limits.now) kind run.old.frames.top run.old.frames.below (world_of run.old.world)) result run.new }
     ensures memory { PlainSpares kind run.old.frames.top.stack run.old.world.heap → run.old.frames.count + 2 ≤ run.old.frames.words → suc run.old.frames.top.line < 2 ^ 64 → HasMemory result }
     ensures room { room_of run.new ≡ room_of run.old }
 {
@@ -57,17 +55,17 @@ pub fn plain(run: &mut Configuration, code: &LinkedCode, limits: &Rules<'_>, kin
             Some(a) => run.push(Word::I(i32::from(low_char(a)))),
             None => Step::Stuck,
         },
-        Plain::Ret => ret(run, code, limits),
-        Plain::Concat => pair(run, code, limits, Pairing::Concat),
-        Plain::Equal => pair(run, code, limits, Pairing::Equal),
-        Plain::Same => pair(run, code, limits, Pairing::Same),
-        Plain::Throw => throw_top(run, code, limits),
-        Plain::ArrayLength => ask(run, code, limits, Asked::Length),
-        Plain::GetIndex => get_index(run, code, limits),
-        Plain::PutIndex => put_index(run, code, limits),
-        Plain::Iter => ask(run, code, limits, Asked::Iterate),
-        Plain::Has => ask(run, code, limits, Asked::HasMore),
-        Plain::Next => ask(run, code, limits, Asked::Next),
+        Plain::Ret => ret(run, executable, limits),
+        Plain::Concat => pair(run, executable, limits, Pairing::Concat),
+        Plain::Equal => pair(run, executable, limits, Pairing::Equal),
+        Plain::Same => pair(run, executable, limits, Pairing::Same),
+        Plain::Throw => throw_top(run, executable, limits),
+        Plain::ArrayLength => ask(run, executable, limits, Asked::Length),
+        Plain::GetIndex => get_index(run, executable, limits),
+        Plain::PutIndex => put_index(run, executable, limits),
+        Plain::Iter => ask(run, executable, limits, Asked::Iterate),
+        Plain::Has => ask(run, executable, limits, Asked::HasMore),
+        Plain::Next => ask(run, executable, limits, Asked::Next),
         _ => copy(run, kind),
     }
 }

@@ -3,16 +3,15 @@ ghost use Rattle.std.specs.Prelude.{◌≡◌, ◌≤◌, ◌<◌, ◌^◌, Some
 ghost use Rattle.code_meaning.specs.Machine.{on_calculation};
 ghost use Rattle.code_meaning.specs.Words as words;
 ghost use Rattle.machine_parts.specs.Frames.{OnlyStack};
-ghost use Rattle.machine.specs.Seen.{Comes, room_of, world_of, codes_alone, limits_in};
+ghost use Rattle.machine.specs.Seen.{Comes, room_of, world_of, codes_in, limits_in};
 ghost use Rattle.machine.specs.Rows.{CalculatesTo, calculated_of};
 ghost use Rattle.machine.specs.Sparing.{NoZero};
 ghost use Rattle.machine.specs.Memory.{HasMemory, HasRoom};
 
-use crate::configuration::{Configuration, Step};
+use crate::configuration::{Configuration, Limits, Step};
 use crate::operands::{pop_int, pop_long};
-use crate::rules::Rules;
 use crate::throwing::throw_zero_divisor;
-use machine_parts::{Frames, LinkedCode};
+use machine_parts::{Executable, Frames};
 use machine_paths::{is_shift, on_ints, on_longs, takes_one, word_of};
 use number_ops::Num;
 use pl_code::{ArithmeticOp, Width};
@@ -30,19 +29,19 @@ pub enum Operated {
 #[inline(always)]
 pub fn arithmetic(
     run: &mut Configuration,
-    code: &LinkedCode,
-    limits: &Rules<'_>,
+    executable: &Executable,
+    limits: &Limits,
     op: ArithmeticOp,
     width: Width,
 ) -> Step
-    ensures exact { Comes (on_calculation (codes_alone code.now.functions) (limits_in limits.now) (words.calculation op width run.old.frames.top.stack) run.old.frames.top run.old.frames.below (world_of run.old.world)) result run.new }
+    ensures exact { Comes (on_calculation (codes_in executable.now) (limits_in executable.now limits.now) (words.calculation op width run.old.frames.top.stack) run.old.frames.top run.old.frames.below (world_of run.old.world)) result run.new }
     ensures memory { NoZero (words.calculation op width run.old.frames.top.stack) → run.old.frames.count ≤ run.old.frames.words → suc run.old.frames.top.line < 2 ^ 64 → HasMemory result }
     ensures room { room_of run.new ≡ room_of run.old }
 {
     match calculated(&mut run.frames, op, width) {
         Operated::NoRow => Step::Stuck,
         Operated::Number(number) => run.push(word_of(number)),
-        Operated::ZeroDivisor => throw_zero_divisor(run, code, limits),
+        Operated::ZeroDivisor => throw_zero_divisor(run, executable, limits),
     }
 }
 

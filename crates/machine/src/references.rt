@@ -1,22 +1,21 @@
 //! Texts, and what is asked of references: whether two are equal or one, their texts joined, and whether one is null.
-ghost use Rattle.std.specs.Prelude.{◌≡◌, ◌≤◌, ◌<◌, ◌^◌, List, length, suc, Some};
+ghost use Rattle.std.specs.Prelude.{◌≡◌, ◌≤◌, ◌<◌, ◌^◌, List, suc, Some};
 ghost use Rattle.std.specs.Option.{option_copied};
 ghost use Rattle.object_values.specs.Utf16.{units};
-ghost use Rattle.object_values.specs.declared.object.Owner.TheVariants.{Script};
 ghost use Rattle.code_meaning.specs.declared.word.Word.{Word};
 ghost use Rattle.code_meaning.specs.Machine.{quoted_act, on_reference, on_top, if_null, to_line};
-ghost use Rattle.machine.specs.Seen.{Comes, room_of, with_stack, world_of, codes_alone, limits_in};
+ghost use Rattle.machine.specs.Seen.{Comes, room_of, with_stack, world_of, codes_in, limits_in};
 ghost use Rattle.machine_parts.specs.Links.{link_at, text_in};
+ghost use Rattle.machine_parts.specs.Rooms.{MembersWithin};
 ghost use Rattle.machine.specs.Sparing.{OnReference, OnValues};
 ghost use Rattle.machine.specs.Memory.{HasMemory, PairSpares};
 ghost use Rattle.machine.specs.Rows.{null_in, on_pair, on_references, paired, text_act};
 
 use crate::access_rows::{get_name, put_name};
-use crate::configuration::{Configuration, Step};
-use crate::rules::Rules;
+use crate::configuration::{Configuration, Limits, Step};
 use crate::throwing::{answered, answered_whole};
 use code_meaning::Word;
-use machine_parts::{Executable, Frames, Link, LinkedCode, Text};
+use machine_parts::{Executable, Frames, Link, Text};
 use number_ops::{concatenate, equal, is_same};
 use object_values::{UText, Value};
 use pl_code::Quoting;
@@ -25,18 +24,17 @@ use pl_code::Quoting;
 pub fn quoted(
     run: &mut Configuration,
     executable: &Executable,
-    limits: &Rules<'_>,
+    limits: &Limits,
     kind: Quoting,
     text: &Text,
 ) -> Step
-    requires script { run.old.frames.top.text ≡ Script }
-    requires reached { length limits.now.allowed.members ≤ run.old.world.reached.room }
+    requires reached { MembersWithin executable.now run.old.world.reached.room }
     requires linked { text_in (link_at executable.now run.old.frames.top) ≡ Some (units text.now) }
-    ensures exact { Comes (quoted_act (codes_alone executable.now.code.functions) (limits_in limits.now) kind text.now run.old.frames.top run.old.frames.below (world_of run.old.world)) result run.new }
+    ensures exact { Comes (quoted_act (codes_in executable.now) (limits_in executable.now limits.now) kind text.now run.old.frames.top run.old.frames.below (world_of run.old.world)) result run.new }
     ensures room { room_of run.new ≡ room_of run.old }
 {
     match linked_text(executable, &run.frames) {
-        Some(shared) => quoted_as(run, executable.linked(), limits, kind, text, shared),
+        Some(shared) => quoted_as(run, executable, limits, kind, text, shared),
         None => Step::Stuck,
     }
 }
@@ -54,22 +52,21 @@ fn linked_text<'e>(executable: &'e Executable, frames: &Frames) -> Option<&'e UT
 // The same with the text as it is shared.
 fn quoted_as(
     run: &mut Configuration,
-    code: &LinkedCode,
-    limits: &Rules<'_>,
+    executable: &Executable,
+    limits: &Limits,
     kind: Quoting,
     text: &Text,
     shared: &UText,
 ) -> Step
-    requires script { run.old.frames.top.text ≡ Script }
-    requires reached { length limits.now.allowed.members ≤ run.old.world.reached.room }
+    requires reached { MembersWithin executable.now run.old.world.reached.room }
     requires shared { shared.now ≡ units text.now }
-    ensures exact { Comes (quoted_act (codes_alone code.now.functions) (limits_in limits.now) kind text.now run.old.frames.top run.old.frames.below (world_of run.old.world)) result run.new }
+    ensures exact { Comes (quoted_act (codes_in executable.now) (limits_in executable.now limits.now) kind text.now run.old.frames.top run.old.frames.below (world_of run.old.world)) result run.new }
     ensures room { room_of run.new ≡ room_of run.old }
 {
     match kind {
         Quoting::Constant => constant(run, shared),
-        Quoting::GetName => get_name(run, code, limits, text.as_str(), shared),
-        Quoting::PutName => put_name(run, code, limits, text.as_str(), shared),
+        Quoting::GetName => get_name(run, executable, limits, text.as_str(), shared),
+        Quoting::PutName => put_name(run, executable, limits, text.as_str(), shared),
     }
 }
 
@@ -95,14 +92,19 @@ pub enum Pairing {
 }
 
 /// An instruction on two references, which are taken off the stack.
-pub fn pair(run: &mut Configuration, code: &LinkedCode, limits: &Rules<'_>, kind: Pairing) -> Step
-    ensures exact { Comes (on_pair run.old.frames.top.stack (λ a b stack. paired (codes_alone code.now.functions) (limits_in limits.now) kind a b run.old.frames.top run.old.frames.below (world_of run.old.world) stack)) result run.new }
+pub fn pair(
+    run: &mut Configuration,
+    executable: &Executable,
+    limits: &Limits,
+    kind: Pairing,
+) -> Step
+    ensures exact { Comes (on_pair run.old.frames.top.stack (λ a b stack. paired (codes_in executable.now) (limits_in executable.now limits.now) kind a b run.old.frames.top run.old.frames.below (world_of run.old.world) stack)) result run.new }
     ensures memory { OnValues run.old.frames.top.stack (PairSpares kind run.old.world.heap.objects) → run.old.frames.count ≤ run.old.frames.words → suc run.old.frames.top.line < 2 ^ 64 → HasMemory result }
     ensures room { room_of run.new ≡ room_of run.old }
 {
     match run.frames.pop() {
         Some(upper) => match run.frames.pop() {
-            Some(lower) => pair_words(run, code, limits, kind, &lower, &upper),
+            Some(lower) => pair_words(run, executable, limits, kind, &lower, &upper),
             None => Step::Stuck,
         },
         None => Step::Stuck,
@@ -112,19 +114,19 @@ pub fn pair(run: &mut Configuration, code: &LinkedCode, limits: &Rules<'_>, kind
 // The same of words that were taken off the stack.
 fn pair_words(
     run: &mut Configuration,
-    code: &LinkedCode,
-    limits: &Rules<'_>,
+    executable: &Executable,
+    limits: &Limits,
     kind: Pairing,
     lower: &Word,
     upper: &Word,
 ) -> Step
-    ensures exact { (stack : List Word) → Comes (on_references lower.now upper.now (λ a b. paired (codes_alone code.now.functions) (limits_in limits.now) kind a b (with_stack run.old.frames.top stack) run.old.frames.below (world_of run.old.world) run.old.frames.top.stack)) result run.new }
+    ensures exact { (stack : List Word) → Comes (on_references lower.now upper.now (λ a b. paired (codes_in executable.now) (limits_in executable.now limits.now) kind a b (with_stack run.old.frames.top stack) run.old.frames.below (world_of run.old.world) run.old.frames.top.stack)) result run.new }
     ensures memory { OnReference upper.now (λ b. OnReference lower.now (λ a. PairSpares kind run.old.world.heap.objects a b)) → run.old.frames.count < run.old.frames.words → suc run.old.frames.top.line < 2 ^ 64 → HasMemory result }
     ensures room { room_of run.new ≡ room_of run.old }
 {
     match upper {
         Word::R(b) => match lower {
-            Word::R(a) => pair_values(run, code, limits, kind, a, b),
+            Word::R(a) => pair_values(run, executable, limits, kind, a, b),
             _ => Step::Stuck,
         },
         _ => Step::Stuck,
@@ -133,24 +135,24 @@ fn pair_words(
 
 fn pair_values(
     run: &mut Configuration,
-    code: &LinkedCode,
-    limits: &Rules<'_>,
+    executable: &Executable,
+    limits: &Limits,
     kind: Pairing,
     a: &Value,
     b: &Value,
 ) -> Step
-    ensures exact { (stack : List Word) → Comes (paired (codes_alone code.now.functions) (limits_in limits.now) kind a.now b.now (with_stack run.old.frames.top stack) run.old.frames.below (world_of run.old.world) run.old.frames.top.stack) result run.new }
+    ensures exact { (stack : List Word) → Comes (paired (codes_in executable.now) (limits_in executable.now limits.now) kind a.now b.now (with_stack run.old.frames.top stack) run.old.frames.below (world_of run.old.world) run.old.frames.top.stack) result run.new }
     ensures memory { PairSpares kind run.old.world.heap.objects a.now b.now → run.old.frames.count < run.old.frames.words → suc run.old.frames.top.line < 2 ^ 64 → HasMemory result }
     ensures room { room_of run.new ≡ room_of run.old }
 {
     match kind {
         Pairing::Concat => {
             let answer = concatenate(&mut run.world.heap, a, b);
-            answered_whole(run, code, limits, answer)
+            answered_whole(run, executable, limits, answer)
         }
         Pairing::Equal => {
             let answer = equal(&mut run.world.heap, a, b);
-            answered(run, code, limits, answer)
+            answered(run, executable, limits, answer)
         }
         Pairing::Same => run.push(Word::I(i32::from(is_same(a, b)))),
     }

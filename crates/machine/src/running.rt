@@ -1,12 +1,12 @@
 //! Instructions one after the other.
-ghost use Rattle.std.specs.Prelude.{◌≡◌, ◌≤◌, length, true};
+ghost use Rattle.std.specs.Prelude.{◌≡◌, ◌≤◌, true};
+ghost use Rattle.machine_parts.specs.Rooms.{MembersWithin};
 ghost use Rattle.machine_paths.specs.Fast.{Leads};
 ghost use Rattle.machine.specs.Memory.{HasMemory, RunSpares};
 ghost use Rattle.machine.specs.Runs.{RanOn, CountsFit};
-ghost use Rattle.machine.specs.Seen.{configuration_of, room_of, codes_alone, goes, limits_in};
+ghost use Rattle.machine.specs.Seen.{configuration_of, room_of, codes_in, goes, limits_in};
 
-use crate::configuration::{Configuration, Step};
-use crate::rules::Rules;
+use crate::configuration::{Configuration, Limits, Step};
 use crate::step::step;
 use machine_parts::{Executable, Frames};
 use machine_paths::{FastRun, begins_fast, begins_values, run_fast, run_values};
@@ -25,17 +25,11 @@ pub struct Ran {
 }
 
 /// Takes so many instructions, or fewer where the run ends.
-pub fn run_on(
-    run: &mut Configuration,
-    executable: &Executable,
-    limits: &Rules<'_>,
-    count: u64,
-) -> Ran
-    requires allowed { limits.now.allowed ≡ executable.now.allow }
-    requires reached { length executable.now.allow.members ≤ run.old.world.reached.room }
+pub fn run_on(run: &mut Configuration, executable: &Executable, limits: &Limits, count: u64) -> Ran
+    requires reached { MembersWithin executable.now run.old.world.reached.room }
     requires counts { CountsFit (configuration_of run.old) }
-    ensures exact { RanOn (codes_alone executable.now.code.functions) (limits_in limits.now) count run.old result run.new }
-    ensures memory { RunSpares (codes_alone executable.now.code.functions) (limits_in limits.now) executable.now.frame count run.old → HasMemory result.last }
+    ensures exact { RanOn (codes_in executable.now) (limits_in executable.now limits.now) count run.old result run.new }
+    ensures memory { RunSpares executable.now (limits_in executable.now limits.now) count run.old → HasMemory result.last }
     ensures counts { goes result.last ≡ true → CountsFit (configuration_of run.new) }
     ensures room { room_of run.new ≡ room_of run.old }
 {
@@ -65,14 +59,9 @@ pub fn run_on(
 // for them: so a loop that calls members enters one path a turn, and one on numbers alone comes to its own.
 #[inline(always)]
 #[tactic(auto, using(machine_paths::proofs::Counting::counts_led))]
-fn run_paths(
-    run: &mut Configuration,
-    executable: &Executable,
-    limits: &Rules<'_>,
-    count: u64,
-) -> u64
+fn run_paths(run: &mut Configuration, executable: &Executable, limits: &Limits, count: u64) -> u64
     requires counts { CountsFit (configuration_of run.old) }
-    ensures exact { Leads (codes_alone executable.now.code.functions) (limits_in limits.now) result (configuration_of run.old) (configuration_of run.new) }
+    ensures exact { Leads (codes_in executable.now) (limits_in executable.now limits.now) result (configuration_of run.old) (configuration_of run.new) }
     ensures steps { result ≤ count }
     ensures room { room_of run.new ≡ room_of run.old }
 {
@@ -85,19 +74,13 @@ fn run_paths(
 }
 
 // Takes instructions of the fast path, so many at most. Its frames are held by value, and others stand here meanwhile.
-fn run_numbers(
-    run: &mut Configuration,
-    executable: &Executable,
-    limits: &Rules<'_>,
-    count: u64,
-) -> u64
+fn run_numbers(run: &mut Configuration, executable: &Executable, limits: &Limits, count: u64) -> u64
     requires counts { CountsFit (configuration_of run.old) }
-    ensures exact { Leads (codes_alone executable.now.code.functions) (limits_in limits.now) result (configuration_of run.old) (configuration_of run.new) }
+    ensures exact { Leads (codes_in executable.now) (limits_in executable.now limits.now) result (configuration_of run.old) (configuration_of run.new) }
     ensures steps { result ≤ count }
     ensures room { room_of run.new ≡ room_of run.old }
 {
-    let code = executable.linked();
-    match run.frames.function_at(code, run.frames.fun()) {
+    match executable.function_at(&run.frames, run.frames.fun()) {
         Some(function) => {
             if !begins_fast(&run.frames, function) {
                 return 0;
@@ -110,10 +93,10 @@ fn run_numbers(
                 steps,
             } = run_fast(
                 frames,
-                code,
+                executable,
                 function,
-                limits.loops(),
-                limits.depth(),
+                limits.loops,
+                limits.depth,
                 run.world.ticks,
                 count,
             );
@@ -127,21 +110,13 @@ fn run_numbers(
 
 // Takes instructions of the path of values, so many at most, in frames that are held by value too.
 #[inline(always)]
-fn run_others(
-    run: &mut Configuration,
-    executable: &Executable,
-    limits: &Rules<'_>,
-    count: u64,
-) -> u64
+fn run_others(run: &mut Configuration, executable: &Executable, limits: &Limits, count: u64) -> u64
     requires counts { CountsFit (configuration_of run.old) }
-    ensures exact { Leads (codes_alone executable.now.code.functions) (limits_in limits.now) result (configuration_of run.old) (configuration_of run.new) }
+    ensures exact { Leads (codes_in executable.now) (limits_in executable.now limits.now) result (configuration_of run.old) (configuration_of run.new) }
     ensures steps { result ≤ count }
     ensures room { room_of run.new ≡ room_of run.old }
 {
-    match run
-        .frames
-        .function_at(executable.linked(), run.frames.fun())
-    {
+    match executable.function_at(&run.frames, run.frames.fun()) {
         Some(function) => {
             if !begins_values(&run.frames, function) {
                 return 0;
@@ -156,8 +131,8 @@ fn run_others(
                 frames,
                 executable,
                 function,
-                limits.loops(),
-                limits.depth(),
+                limits.loops,
+                limits.depth,
                 run.world.ticks,
                 count,
             );

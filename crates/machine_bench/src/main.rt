@@ -4,11 +4,12 @@
 #![tactic(auto)]
 
 use allowlist::{Allow, Catalogue};
-use machine::{Activation, Executable, Finished, Limits, RunMemory};
+use machine::{Activation, Executable, Finished, Limits, LinkedText, RunMemory};
 use object_heap::Heap;
 use object_values::{Elements, Seed};
 use pl_code::read_listing;
 use std::alloc::{AllocError, Global};
+use std::rc::Rc;
 use std::rt::Clock;
 use std::time::Instant;
 use std::{env, io};
@@ -68,6 +69,9 @@ const RUNS: u32 = 200_000;
 // So often stands s += 1 in a straight line.
 const SUMS: usize = 250_000;
 
+// A prelude whose one function does nothing.
+const PRELUDE: &[u8] = b"painless 1\nfun 0 free V - -\nret\nend\n";
+
 const LIMITS: Limits = Limits {
     loops: 2_000_000,
     depth: 256,
@@ -104,12 +108,17 @@ fn run(alloc: Global, executable: &Executable, q: u64) -> Result<u64, AllocError
     })
 }
 
-/// The code of a listing, ready to run. What is no listing counts as want of memory.
+/// The code of a listing beside a prelude whose one function does nothing, ready to run. What is no listing counts as want of memory.
 fn ready(alloc: Global, listing: &str, allow: &Allow) -> Result<Executable, AllocError> {
     let Ok(code) = read_listing(alloc, listing.as_bytes()) else {
         return Err(AllocError);
     };
-    Executable::new(alloc, code, allow.share(alloc)?, FRAME)
+    let Ok(beside) = read_listing(alloc, PRELUDE) else {
+        return Err(AllocError);
+    };
+    let text = LinkedText::new(alloc, beside, allow.share(alloc)?)?;
+    let prelude = Rc::new(alloc, text)?;
+    Executable::new(alloc, code, allow.share(alloc)?, prelude, FRAME)
 }
 
 fn measure(

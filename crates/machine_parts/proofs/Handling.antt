@@ -103,10 +103,6 @@ pub next_is : (traps : List LinkedTrap) (nexts : List ℕ) (line at next place :
 next_is traps nexts line at next place over t are is here is_over behind below there =
     not_over line over.from over.to t (is_over_from line over is_over) (is_over_to line over is_over) ((are at next is).1 over here place t (omega arith) below there)
 
--- no list is there where none is
-pub none_there : {X Y : Type 0} (f : X → Y) (o : Option X) → o ≡ None → None ≡ option_map f o
-none_there f o is = ap (option_map f) (sym is)
-
 -- the handlers of a function
 pub of_function : (handlers : List (List LinkedTrap)) (functions : List FunCode) (k : ℕ) → handlers ≡ handlers_in functions → slice_get handlers k ≡ option_map linked_traps (slice_get functions k)
 of_function handlers functions k is = ap (λ all. slice_get all k) is ∙ slice_get-map linked_traps functions k

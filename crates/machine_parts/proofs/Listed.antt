@@ -8,12 +8,13 @@ use Rattle.pl_types.specs.Texts.{type_of_full}
 use Rattle.pl_code.specs.declared.code.Instruction.{Instruction}
 use Rattle.pl_code.specs.declared.code.Instruction.TheVariants as i
 use Rattle.code_meaning.specs.Machine.{Frame}
-use Rattle.machine_parts.specs.Links.{Executable, instruction_at, link_at, link_of, type_link, member_link, member_in}
-use Rattle.machine_parts.specs.declared.executable.Link.{Link}
+use Rattle.machine_parts.specs.Code.{Executable, text_of}
+use Rattle.machine_parts.specs.Links.{instruction_at, link_at, link_of, type_link, member_link, linked_member}
+use Rattle.machine_parts.specs.declared.linked_text.Link.{Link}
 
 module _ (allow : AllowList) where
   abbrev IsListed : Option Link → Type 0
-  IsListed o = IfSome (member_in o) (λ number. number < length allow.members)
+  IsListed o = IfSome (linked_member o) (λ number. number < length allow.members)
 
   no_member : (o : Option Ty) → IsListed (Some (type_link o))
   no_member None = tt
@@ -49,6 +50,6 @@ module _ (allow : AllowList) where
   there None = tt
   there (Some line) = line_listed line
 
--- what the instruction names at which a frame stands
-pub listed_at : (e : Executable) (f : Frame) (found : Option Link) → found ≡ link_at e f → IfSome (member_in found) (λ number. number < length e.allow.members)
-listed_at e f found is = subst (IsListed e.allow) (sym is) (there e.allow (instruction_at e f))
+-- what the instruction names at which a frame stands is of the list of its text
+pub listed_at : (e : Executable) (f : Frame) (found : Option Link) → found ≡ link_at e f → IfSome (linked_member found) (λ number. number < length (text_of e f.text).allow.members)
+listed_at e f found is = subst (IsListed (text_of e f.text).allow) (sym is) (there (text_of e f.text).allow (instruction_at e f))

@@ -12,13 +12,12 @@ use Rattle.def_resolve.specs.Resolution.{class_of, target_of}
 use Rattle.object_values.specs.declared.object.Object.{Object}
 use Rattle.object_values.specs.declared.value.Value.{Value}
 use Rattle.code_meaning.specs.Machine.{Frame, function_of}
-use Rattle.pl_code.specs.declared.code.Code.{Code}
 use Rattle.pl_code.specs.declared.code.FunCode.{FunCode}
 use Rattle.pl_code.specs.declared.code.Instruction.{Instruction}
 use Rattle.pl_code.specs.declared.code.Instruction.TheVariants as i
-use Rattle.machine_parts.specs.declared.executable.Link.{Link}
-use Rattle.machine_parts.specs.declared.executable.Link.TheVariants as link
-use Rattle.machine_parts.specs.Code.{codes_alone}
+use Rattle.machine_parts.specs.declared.linked_text.Link.{Link}
+use Rattle.machine_parts.specs.declared.linked_text.Link.TheVariants as link
+use Rattle.machine_parts.specs.Code.{Executable, codes_in, text_of}
 
 abbrev pub type_link : Option Ty → Link
 type_link None = link.Nothing
@@ -67,9 +66,9 @@ abbrev pub type_in : Option Link → Option Ty
 type_in (Some (link.Type of)) = Some of
 type_in other = None
 
-abbrev pub member_in : Option Link → Option ℕ
-member_in (Some (link.Member number)) = Some number
-member_in other = None
+abbrev pub linked_member : Option Link → Option ℕ
+linked_member (Some (link.Member number)) = Some number
+linked_member other = None
 
 abbrev pub text_in : Option Link → Option (List ℕ)
 text_in (Some (link.Text text)) = Some text
@@ -89,16 +88,10 @@ abbrev pub target_for_first : List (Option Callee) → ℕ → List Object → L
 target_for_first methods count objects [] = None
 target_for_first methods count objects (receiver ∷ arguments) = if length arguments == count then target_in methods (class_of objects receiver) else None
 
--- code with the list of the members that it may call, and how many words there is memory for in each frame
-pub record Executable : Type 0 where
-  pub code : Code
-  pub allow : AllowList
-  pub frame : ℕ
-
--- the instruction at which a frame stands
+-- the instruction at which a frame stands, in the code of its text
 abbrev pub instruction_at : Executable → Frame → Option Instruction
-instruction_at e f = slice_get (lines_in (function_of (codes_alone e.code.functions) f)) f.line
+instruction_at e f = slice_get (lines_in (function_of (codes_in e) f)) f.line
 
--- what it names
+-- what it names, of the members that its text may call
 abbrev pub link_at : Executable → Frame → Option Link
-link_at e f = option_map (link_of e.allow) (instruction_at e f)
+link_at e f = option_map (link_of (text_of e f.text).allow) (instruction_at e f)

@@ -1,10 +1,12 @@
 -- What memory is taken at the start of a run.
-use Rattle.std.specs.Prelude.{◌≡◌, ◌≤◌, ◌<◌, ◌+◌, ◌*◌, ◌==◌, ℕ, suc, Bool, true, List, nat_lt}
+use Rattle.std.specs.Prelude.{◌≡◌, ◌≤◌, ◌<◌, ◌+◌, ◌*◌, ◌==◌, ℕ, suc, Bool, true, List, length, nat_lt}
 use Rattle.std.specs.List.{IsDistinct, list_all, list_any}
-use Rattle.allowlist.specs.Index.{member_at}
+use Rattle.allowlist.specs.Index.{member_in}
+use Rattle.object_values.specs.declared.object.Owner.{Owner}
 use Rattle.object_values.specs.declared.value.Value.{Value}
 use Rattle.code_meaning.specs.declared.word.Word.{Word}
 use Rattle.code_meaning.specs.Members.{count_of}
+use Rattle.machine_parts.specs.Code.{Executable, text_of}
 
 -- the words that a call takes, the top first, and how many there is memory for
 pub record TakenWords : Type 0 where
@@ -46,10 +48,18 @@ pub record FitsAtStart (frame depth : ℕ) : Type 0 where
   pub words : suc depth * frame + 2 ≤ most_at_start
   pub frames : depth ≤ most_at_start
 
--- It is enough for frames of so many words each and calls so deep: two words more serve an instruction until it takes others off. And it
--- is enough for a call of each member.
-pub record IsEnough (frame depth : ℕ) (room : Room) : Type 0 where
-  pub words : suc depth * frame + 2 ≤ room.words
+-- neither text's list has more members
+pub record MembersWithin (e : Executable) (most : ℕ) : Type 0 where
+  pub within : (text : Owner) → length (text_of e text).allow.members ≤ most
+
+-- a call of a member of either list takes no more words
+pub record ArgumentsWithin (e : Executable) (most : ℕ) : Type 0 where
+  pub within : (text : Owner) (number : ℕ) → number < length (text_of e text).allow.members → count_of (member_in (text_of e text).allow number) ≤ most
+
+-- It is enough for the frames of what is run and for calls so deep: two words more serve an instruction until it takes others off. And it
+-- is enough for a call of each member that one of the texts may call.
+pub record IsEnough (e : Executable) (depth : ℕ) (room : Room) : Type 0 where
+  pub words : suc depth * e.frame + 2 ≤ room.words
   pub frames : depth ≤ room.frames
-  pub taken : (number : ℕ) → number < room.reached → count_of (member_at number) ≤ room.taken
-  pub values : (number : ℕ) → number < room.reached → count_of (member_at number) ≤ room.values
+  pub taken : ArgumentsWithin e room.taken
+  pub values : ArgumentsWithin e room.values

@@ -1,21 +1,17 @@
 //! Frames that lie one on the other in one vector of words.
-ghost use Rattle.std.specs.Prelude.{◌+◌, ◌^◌, ◌++◌, map, nat_le, drop, take, false, ◌≡◌, ◌≤◌, ◌<◌, true, suc, [], ◌∷◌, length, option_map, slice_get, slice_set, MatchOption, OnOk, OnErr, IsOk, IfOk};
+ghost use Rattle.std.specs.Prelude.{◌+◌, ◌^◌, ◌++◌, map, nat_le, drop, take, false, ◌≡◌, ◌≤◌, ◌<◌, true, suc, [], ◌∷◌, length, slice_get, slice_set, MatchOption, OnOk, OnErr, IsOk, IfOk};
 ghost use Rattle.std.specs.Option.{option_copied};
 ghost use Rattle.std.specs.Vec.{vec_capacity};
-ghost use Rattle.code_meaning.specs.Machine.{depth_of, take_words, code_in, function_of};
+ghost use Rattle.code_meaning.specs.Machine.{depth_of, take_words};
 ghost use Rattle.code_meaning.specs.Words.{start_of};
 ghost use Rattle.code_meaning.specs.Sizes.{words_in};
 ghost use Rattle.machine_parts.specs.Frames.{Enters, GivesBack, Leaves, at_line, with_turns};
 ghost use Rattle.machine_parts.specs.Frames.{with_stack, with_words};
 ghost use Rattle.object_values.specs.declared.object.Owner.TheVariants.{Script};
-ghost use Rattle.machine_parts.specs.Handlers.{linked_traps};
-ghost use Rattle.machine_parts.specs.Code.{codes_alone};
 
-use crate::handlers::Handlers;
-use crate::linked_code::LinkedCode;
 use code_meaning::Word;
 use object_values::{Elements, Owner, Value};
-use pl_code::{FunCode, Slot};
+use pl_code::Slot;
 use std::alloc::{AllocError, Global};
 use std::marker::Model;
 use std::mem::{forget, replace};
@@ -348,28 +344,6 @@ impl Frames {
         ensures { result ≡ self.now.top.text }
     {
         self.top.text
-    }
-
-    /// The function of this number, in the code of the newest frame's text. The prelude has no code yet.
-    #[inline(always)]
-    pub fn function_at<'c>(&self, code: &'c LinkedCode, number: u32) -> Option<&'c FunCode>
-        ensures { option_copied result ≡ slice_get (code_in (codes_alone code.now.functions) self.now.top.text) number }
-    {
-        match self.top.text {
-            Owner::Script => code.function(number),
-            Owner::Prelude => None,
-        }
-    }
-
-    /// The handlers of the newest frame's function.
-    #[tactic(auto, using(crate::proofs::Handling::none_there))]
-    pub fn handlers<'c>(&self, code: &'c LinkedCode) -> Option<&'c Handlers>
-        ensures { option_copied result ≡ option_map linked_traps (function_of (codes_alone code.now.functions) self.now.top) }
-    {
-        match self.top.text {
-            Owner::Script => code.handlers(self.top.fun),
-            Owner::Prelude => None,
-        }
     }
 
     /// The line of the newest frame.

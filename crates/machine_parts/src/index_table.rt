@@ -1,6 +1,6 @@
 //! By which members an index in brackets reads and writes what lists and maps hold, found once for each class.
 ghost use Rattle.std.specs.Prelude.{◌≡◌, ◌<◌, IfOk, IfSome, length, option_map};
-ghost use Rattle.allowlist.specs.Index.{member_at};
+ghost use Rattle.allowlist.specs.Index.{member_in};
 ghost use Rattle.def_resolve.specs.Accesses as access;
 ghost use Rattle.def_resolve.specs.declared.access.NameAccess.TheVariants as by_name;
 ghost use Rattle.def_access.specs.Coming.{NameListed};
@@ -200,7 +200,7 @@ fn instance_member(allow: &Allow, class: u32, name: &str, arity: u32) -> Option<
 // What is found, where it is an instance member.
 fn instance_in(allow: &Allow, found: Option<u32>) -> Option<u32>
     requires { IfSome found (λ number. number < length allow.now.members) }
-    ensures { result ≡ instance_in found }
+    ensures { result ≡ instance_in allow.now found }
 {
     let number = found?;
     match member_at(allow, number).kind {
@@ -211,7 +211,7 @@ fn instance_in(allow: &Allow, found: Option<u32>) -> Option<u32>
 
 fn member_at(allow: &Allow, number: u32) -> &MemberType
     requires { number < length allow.now.members }
-    ensures { result.now ≡ member_at number }
+    ensures { result.now ≡ member_in allow.now number }
 {
     allow.member_type(number)
 }

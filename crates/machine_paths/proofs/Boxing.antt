@@ -36,8 +36,8 @@ use Rattle.code_meaning.specs.Machine.{Codes, Config, Frame, Goes, act, dynamic_
 use Rattle.machine_paths.specs.Boxed.{Operates, OperatesOn, Unboxes, number_boxed, plain_operator, taken_out}
 use Rattle.machine_paths.specs.Fast.{Does}
 use Rattle.machine_parts.specs.Frames.{Laid, at_line, with_stack}
-use Rattle.machine_parts.specs.Links.{Executable, instruction_at, link_at, text_in}
-use Rattle.machine_parts.specs.Code.{limits_in}
+use Rattle.machine_parts.specs.Code.{Executable}
+use Rattle.machine_parts.specs.Links.{instruction_at, link_at, text_in}
 use Rattle.machine_parts.proofs.Linked.{text_names}
 use Rattle.machine_paths.proofs.Quick.{as_does}
 
@@ -209,7 +209,7 @@ constant_so e f line kind text there is constant codes limits below w next at ol
     (ap (λ (it : Instruction). act codes limits it f below w) is
     ∙ ap (λ (q : Quoting). quoted_act codes limits q text f below w) constant
     ∙ ap (λ (n : ℕ). to_line f below w n (R (v.Str (units text)) ∷ f.stack)) (sym at))
-    (h (units text) (text_names e (limits_in (record { loop = 0; depth = 0; allowed = e.allow })) line f refl there kind text is))
+    (h (units text) (text_names e line f there kind text is))
 
 -- ---- casts
 

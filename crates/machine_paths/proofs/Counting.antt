@@ -11,7 +11,8 @@ use Rattle.object_values.specs.declared.value.Value.{Value}
 use Rattle.object_values.specs.declared.value.Value.TheVariants as v
 use Rattle.object_heap.specs.Effects.{Effect, Gives, Throws, NoRoom}
 use Rattle.allowlist.specs.declared.member.MemberType.{MemberType}
-use Rattle.allowlist.specs.Index.{member_at}
+use Rattle.allowlist.specs.Allow.{AllowList}
+use Rattle.allowlist.specs.Index.{member_in}
 use Rattle.machine_parts.specs.Members.{method_of, constructor_of, field_of}
 use Rattle.code_meaning.specs.MemberCallsMembers.{does}
 use Rattle.code_meaning.specs.Elements.{element_read, element_written, length_of}
@@ -38,7 +39,7 @@ use Rattle.pl_code.specs.declared.code.FunCode.{FunCode}
 use Rattle.pl_code.specs.declared.code.Instruction.{Instruction}
 use Rattle.pl_code.specs.declared.code.Instruction.TheVariants as i
 use Rattle.run_state.specs.Calls.{suits_member, wrong_class}
-use Rattle.run_state.specs.World.{World, Limits, Outcome, Given, Raised, Full, acts_in, Counted, Counts, Passes, Ticks, Loop, Depth, allowed_in, pay_tick, take_turn, goes_deeper, enter, reach, reaches, pay_member}
+use Rattle.run_state.specs.World.{World, Limits, Arose, not_told, Outcome, Given, Raised, Full, acts_in, Counted, Counts, Passes, Ticks, Loop, Depth, allowed_in, pay_tick, take_turn, goes_deeper, enter, reach, reaches, pay_member}
 use Rattle.code_meaning.specs.declared.word.Word.{Word}
 use Rattle.code_meaning.specs.declared.word.Word.TheVariants.{I, J, R}
 use Rattle.code_meaning.specs.Members.{Receiving, Unfit, OnNull, Receives, Reads, count_of, given_as, ints_in, received, references_in, taken, taken_alike, taken_result}
@@ -155,18 +156,18 @@ first_fits (value ∷ values) next k = k value values
 module _ (codes : Codes) (limits : Limits) where
   -- ---- what is thrown
 
-  lands_fit : (hs : Handlers) (f : Frame) (fs : List Frame) (id : ℕ) (w : World) (further : Next) → TurnsFit w.ticks (f ∷ fs) → NextFits further
-      → NextFits (lands hs f.text f.fun f.locals f.turns f.due fs id w further)
-  lands_fit [] f fs id w further h k = k
-  lands_fit (x ∷ xs) f fs id w further h k = by_test (lands_fit xs f fs id w further h k) (is_instance x.class id w) where
-    by_test : NextFits (lands xs f.text f.fun f.locals f.turns f.due fs id w further) → (t : Bool)
-        → NextFits (if t then Goes (record { top = record { text = f.text; fun = f.fun; line = x.at; locals = f.locals; stack = R (v.Ref id) ∷ []; turns = f.turns; due = f.due }; below = fs; world = w }) else lands xs f.text f.fun f.locals f.turns f.due fs id w further)
+  lands_fit : (hs : Handlers) (f : Frame) (fs : List Frame) (id : ℕ) (place : Arose) (w : World) (further : Next) → TurnsFit w.ticks (f ∷ fs) → NextFits further
+      → NextFits (lands hs f.text f.fun f.locals f.turns f.due fs id place w further)
+  lands_fit [] f fs id place w further h k = k
+  lands_fit (x ∷ xs) f fs id place w further h k = by_test (lands_fit xs f fs id place w further h k) (is_instance x.class id w) where
+    by_test : NextFits (lands xs f.text f.fun f.locals f.turns f.due fs id place w further) → (t : Bool)
+        → NextFits (if t then Goes (record { top = record { text = f.text; fun = f.fun; line = x.at; locals = f.locals; stack = R (v.Ref id) ∷ []; turns = f.turns; due = f.due }; below = fs; world = w }) else lands xs f.text f.fun f.locals f.turns f.due fs id place w further)
     by_test rest true = h
     by_test rest false = rest
 
-  unwind_fits : (fs : List Frame) (id : ℕ) (w : World) → TurnsFit w.ticks fs → NextFits (unwind codes fs id w)
-  unwind_fits [] id w h = tt
-  unwind_fits (f ∷ fs) id w h = lands_fit (traps_of (function_of codes f) f.line) f fs id w (unwind codes fs id w) h (unwind_fits fs id w h.1)
+  unwind_fits : (fs : List Frame) (id : ℕ) (place : Arose) (w : World) → TurnsFit w.ticks fs → NextFits (unwind codes fs id place w)
+  unwind_fits [] id place w h = tt
+  unwind_fits (f ∷ fs) id place w h = lands_fit (traps_of (function_of codes f) f.line) f fs id place w (unwind codes fs id place w) h (unwind_fits fs id place w h.1)
 
   abbrev KeepsTicks : World → Outcome Value → Type 0
   KeepsTicks w (Given value w') = w'.ticks ≡ w.ticks
@@ -182,7 +183,7 @@ module _ (codes : Codes) (limits : Limits) where
   outcome_fits : (o : Outcome Value) (word : Value → Word) (f : Frame) (below : List Frame) (w : World) (stack : List Word) → TurnsFit w.ticks (f ∷ below) → KeepsTicks w o
       → NextFits (on_outcome codes limits o word f below w stack)
   outcome_fits (Given value w') word f below w stack h e = as_many w.ticks w'.ticks e (f ∷ below) h
-  outcome_fits (Raised id w') word f below w stack h e = unwind_fits (f ∷ below) id w' (as_many w.ticks w'.ticks e (f ∷ below) h)
+  outcome_fits (Raised id w') word f below w stack h e = unwind_fits (f ∷ below) id not_told w' (as_many w.ticks w'.ticks e (f ∷ below) h)
   outcome_fits Full word f below w stack h e = tt
 
   effect_fits : (e : Effect) (word : Value → Word) (f : Frame) (below : List Frame) (w : World) (stack : List Word) → TurnsFit w.ticks (f ∷ below)
@@ -191,12 +192,12 @@ module _ (codes : Codes) (limits : Limits) where
 
   thrown_fits : (o : Outcome Value) (f : Frame) (below : List Frame) (w : World) → TurnsFit w.ticks (f ∷ below) → KeepsTicks w o → NextFits (on_thrown codes limits o f below w)
   thrown_fits (Given value w') f below w h e = tt
-  thrown_fits (Raised id w') f below w h e = unwind_fits (f ∷ below) id w' (as_many w.ticks w'.ticks e (f ∷ below) h)
+  thrown_fits (Raised id w') f below w h e = unwind_fits (f ∷ below) id not_told w' (as_many w.ticks w'.ticks e (f ∷ below) h)
   thrown_fits Full f below w h e = tt
 
   done_fits_on : (o : Outcome Value) (f : Frame) (below : List Frame) (w : World) (stack : List Word) → TurnsFit w.ticks (f ∷ below) → KeepsTicks w o → NextFits (on_done codes limits o f below w stack)
   done_fits_on (Given value w') f below w stack h e = as_many w.ticks w'.ticks e (f ∷ below) h
-  done_fits_on (Raised id w') f below w stack h e = unwind_fits (f ∷ below) id w' (as_many w.ticks w'.ticks e (f ∷ below) h)
+  done_fits_on (Raised id w') f below w stack h e = unwind_fits (f ∷ below) id not_told w' (as_many w.ticks w'.ticks e (f ∷ below) h)
   done_fits_on Full f below w stack h e = tt
 
   done_fits : (e : Effect) (f : Frame) (below : List Frame) (w : World) (stack : List Word) → TurnsFit w.ticks (f ∷ below) → NextFits (on_done codes limits (acts_in w e) f below w stack)
@@ -207,7 +208,7 @@ module _ (codes : Codes) (limits : Limits) where
   given_fits : (o : Outcome Value) (f : Frame) (below : List Frame) (w : World) (next : Value → World → Next) → TurnsFit w.ticks (f ∷ below) → KeepsTicks w o
       → ((value : Value) (w' : World) → TurnsFit w'.ticks (f ∷ below) → NextFits (next value w')) → NextFits (on_given codes limits o f below w next)
   given_fits (Given value w') f below w next h e k = k value w' (as_many w.ticks w'.ticks e (f ∷ below) h)
-  given_fits (Raised id w') f below w next h e k = unwind_fits (f ∷ below) id w' (as_many w.ticks w'.ticks e (f ∷ below) h)
+  given_fits (Raised id w') f below w next h e k = unwind_fits (f ∷ below) id not_told w' (as_many w.ticks w'.ticks e (f ∷ below) h)
   given_fits Full f below w next h e k = tt
 
   each_fits : (tos : List Ty) (value : Value) (f : Frame) (below : List Frame) (w : World) → TurnsFit w.ticks (f ∷ below) → NextFits (cast_each codes limits tos value f below w)
@@ -273,11 +274,11 @@ module _ (codes : Codes) (limits : Limits) where
   -- ---- in a frame
 
   module _ (f : Frame) (below : List Frame) (w : World) (here : TurnsFit w.ticks (f ∷ below)) where
-    member_fits : (o : Option ℕ) → NextFits (member_act codes limits o f below w)
-    member_fits None = tt
-    member_fits (Some number) =
-        words_fit (take_words (count_of (member_at number)) f.stack []) _
-        (λ words stack. received_fits (received (member_at number) words) number (member_at number) f below w stack here)
+    member_fits : (allow : AllowList) (o : Option ℕ) → NextFits (member_act codes limits allow o f below w)
+    member_fits allow None = tt
+    member_fits allow (Some number) =
+        words_fit (take_words (count_of (member_in allow number)) f.stack []) _
+        (λ words stack. received_fits (received (member_in allow number) words) number (member_in allow number) f below w stack here)
 
     calculation_fits : (c : Calculation) → NextFits (on_calculation codes limits c f below w)
     calculation_fits NoRow = tt
@@ -415,9 +416,9 @@ module _ (codes : Codes) (limits : Limits) where
     act_fits_here (i.Typed t of) = type_holds NextFits tt (type_of_full of) _ (λ of. typed_fits t of)
     act_fits_here (i.Sized s of n) = type_holds NextFits tt (type_of_full of) _ (λ of. sized_fits s of n)
     act_fits_here (i.DefCall name n) = method_fits name n
-    act_fits_here (i.Invoke method) = member_fits (method_of (allowed_in limits f.text) method)
-    act_fits_here (i.New constructor) = member_fits (constructor_of (allowed_in limits f.text) constructor)
-    act_fits_here (i.Field field) = member_fits (field_of (allowed_in limits f.text) field)
+    act_fits_here (i.Invoke method) = member_fits (allowed_in limits f.text) (method_of (allowed_in limits f.text) method)
+    act_fits_here (i.New constructor) = member_fits (allowed_in limits f.text) (constructor_of (allowed_in limits f.text) constructor)
+    act_fits_here (i.Field field) = member_fits (allowed_in limits f.text) (field_of (allowed_in limits f.text) field)
     act_fits_here (i.Lambda interface k n) = tt
     act_fits_here (i.Ref interface of word) = tt
     act_fits_here (i.NewRef interface of) = tt

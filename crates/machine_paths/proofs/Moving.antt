@@ -5,7 +5,7 @@ use Rattle.std.proofs.lemmas.Bool.{lt-ltb}
 use Rattle.object_heap.specs.Store.{Store}
 use Rattle.pl_code.specs.declared.code.FunCode.{FunCode}
 use Rattle.pl_code.specs.declared.code.Instruction.{Instruction}
-use Rattle.run_state.specs.World.{World, Limits, Counts, Passes, Ticks, Depth, enter, goes_deeper, pay_tick}
+use Rattle.run_state.specs.World.{World, Limits, limits_for, Counts, Passes, Ticks, Depth, enter, goes_deeper, pay_tick}
 use Rattle.code_meaning.specs.declared.word.Word.{Word}
 use Rattle.code_meaning.specs.Machine.{Codes, Config, Frame, Goes, Next, act, acts, depth_of, function_of, gives_back, lines_of, on_call, on_enter, on_top, on_words, step, take_words}
 use Rattle.machine_paths.specs.Fast.{Does, KeepsRoom, StaysIn, Takes, in_world, moves, placed, stays}
@@ -13,7 +13,6 @@ use Rattle.machine_parts.specs.Frames.{Enters, GivesBack, Laid}
 use Rattle.machine_paths.specs.declared.fast_calls.Taken.{Taken}
 use Rattle.machine_paths.specs.declared.fast_calls.Taken.TheVariants as taken
 use Rattle.machine_paths.specs.Steps.{TurnsFit}
-use Rattle.machine_parts.specs.Code.{limits_in}
 use Rattle.machine_paths.proofs.Entered.{entered}
 use Rattle.machine_paths.proofs.Counting.{counts_on}
 use Rattle.machine_paths.proofs.Quick.{of_upper}
@@ -55,7 +54,7 @@ pub counts_still : (codes : Codes) (loops depth : ℕ) (old new : Laid) (ticks a
     → ((limits : Limits) (store : Store) (reached : List ℕ) → limits.loop ≡ loops → limits.depth ≡ depth → step codes limits (placed old store ticks reached) ≡ Goes (placed new store after reached))
     → TurnsFit after (new.top ∷ new.below)
 counts_still codes loops depth old new ticks after h e =
-    let limits : Limits = limits_in (record { loop = loops; depth = depth; allowed = record { classes = []; members = [] } }) in
+    let limits : Limits = limits_for loops depth (record { classes = []; members = [] }) in
     let store : Store = record { objects = []; room = 0 } in
     counts_on codes limits (placed old store ticks []) (placed new store after []) h (e limits store [] refl refl)
 

@@ -6,10 +6,10 @@ ghost use Rattle.run_state.specs.World.{Limits, World};
 ghost use Rattle.pl_code.specs.declared.kinds.Plain.TheVariants as plains;
 ghost use Rattle.code_meaning.specs.Machine.{Codes, code_in, function_of, gives_back, on_call, on_top, plain_act};
 ghost use Rattle.machine_paths.specs.Fast.{Does, KeepsRoom, in_world, moves, placed, stays};
-ghost use Rattle.machine_parts.specs.Code.{codes_alone};
+ghost use Rattle.machine_parts.specs.Code.{codes_in};
 
 use code_meaning::Word;
-use machine_parts::{Frames, LinkedCode};
+use machine_parts::{Executable, Frames};
 use pl_code::FunCode;
 
 /// What came of an instruction of the fast path.
@@ -44,14 +44,14 @@ pub fn moves(done: bool) -> Taken
 pub fn call(
     frames: &mut Frames,
     ticks: &mut u64,
-    code: &LinkedCode,
+    executable: &Executable,
     depth: u32,
     number: u32,
 ) -> bool
-    ensures exact { (limits : Limits) (store : Store) (reached : List ℕ) → limits.depth ≡ depth → Does (on_call (codes_alone code.now.functions) limits (slice_get (code_in (codes_alone code.now.functions) frames.old.top.text) number) number frames.old.top frames.old.below (record { store = store; ticks = ticks.old; reached = reached })) (placed frames.old store ticks.old reached) (placed frames.new store ticks.new reached) result }
+    ensures exact { (limits : Limits) (store : Store) (reached : List ℕ) → limits.depth ≡ depth → Does (on_call (codes_in executable.now) limits (slice_get (code_in (codes_in executable.now) frames.old.top.text) number) number frames.old.top frames.old.below (record { store = store; ticks = ticks.old; reached = reached })) (placed frames.old store ticks.old reached) (placed frames.new store ticks.new reached) result }
     ensures room { KeepsRoom frames.old frames.new }
 {
-    match frames.function_at(code, number) {
+    match executable.function_at(frames, number) {
         Some(function) => enter(frames, ticks, function, depth, number),
         None => false,
     }

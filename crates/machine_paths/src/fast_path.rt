@@ -10,14 +10,14 @@ ghost use Rattle.code_meaning.specs.Machine.{Codes, Goes, act, numbered_act, fun
 ghost use Rattle.pl_code.specs.declared.kinds.Plain.TheVariants as plains;
 ghost use Rattle.machine_paths.specs.Fast.{Does, Keeps, KeepsRoom, KeepsTurns, Leads, StaysIn, Takes, in_world, placed};
 ghost use Rattle.machine_paths.specs.Steps.{TurnsFit};
-ghost use Rattle.machine_parts.specs.Code.{codes_alone};
+ghost use Rattle.machine_parts.specs.Code.{codes_in};
 ghost use Rattle.machine_parts.specs.Frames.{at_line, with_stack};
 
 use crate::fast_calls::{Taken, call, give_back, moves, stays};
 use crate::numbers::{is_shift, on_ints, on_longs, takes_one, word_of};
 use arithmetic::Num;
 use code_meaning::Word;
-use machine_parts::{Frames, LinkedCode};
+use machine_parts::{Executable, Frames};
 use pl_code::{ArithmeticOp, FunCode, Instruction, Numbered, Plain, Width};
 
 /// How far the fast path has come.
@@ -68,16 +68,16 @@ fn is_number(word: Option<&Word>) -> bool {
 #[inline(never)]
 pub fn run_fast(
     frames: Frames,
-    code: &LinkedCode,
+    executable: &Executable,
     function: &FunCode,
     loops: u64,
     depth: u32,
     ticks: u64,
     count: u64,
 ) -> FastRun
-    requires found { function_of (codes_alone code.now.functions) frames.top ≡ Some function.now }
+    requires found { function_of (codes_in executable.now) frames.top ≡ Some function.now }
     requires counts { TurnsFit ticks (frames.top ∷ frames.below) }
-    ensures exact { (limits : Limits) (store : Store) (reached : List ℕ) → limits.loop ≡ loops → limits.depth ≡ depth → Leads (codes_alone code.now.functions) limits result.steps (placed frames store ticks reached) (placed result.frames store result.ticks reached) }
+    ensures exact { (limits : Limits) (store : Store) (reached : List ℕ) → limits.loop ≡ loops → limits.depth ≡ depth → Leads (codes_in executable.now) limits result.steps (placed frames store ticks reached) (placed result.frames store result.ticks reached) }
     ensures keeps { KeepsRoom frames result.frames }
     ensures steps { result.steps ≤ count }
 {
@@ -85,9 +85,9 @@ pub fn run_fast(
     let mut ticks = ticks;
     let mut function = function;
     'instructions: for taken in 0..count {
-        match fast_step(&mut frames, &mut ticks, code, function, loops, depth) {
+        match fast_step(&mut frames, &mut ticks, executable, function, loops, depth) {
             Taken::Here => {}
-            Taken::Elsewhere => match frames.function_at(code, frames.fun()) {
+            Taken::Elsewhere => match executable.function_at(&frames, frames.fun()) {
                 Some(found) => function = found,
                 None => {
                     return FastRun {
@@ -118,14 +118,14 @@ pub fn run_fast(
 fn fast_step(
     frames: &mut Frames,
     ticks: &mut u64,
-    code: &LinkedCode,
+    executable: &Executable,
     function: &FunCode,
     loops: u64,
     depth: u32,
 ) -> Taken
-    requires found { function_of (codes_alone code.now.functions) frames.old.top ≡ Some function.now }
+    requires found { function_of (codes_in executable.now) frames.old.top ≡ Some function.now }
     requires turns { frames.old.top.turns + ticks.old < 2 ^ 64 }
-    ensures exact { (limits : Limits) (store : Store) (reached : List ℕ) → limits.loop ≡ loops → limits.depth ≡ depth → Takes (step (codes_alone code.now.functions) limits (placed frames.old store ticks.old reached)) (placed frames.old store ticks.old reached) (placed frames.new store ticks.new reached) result }
+    ensures exact { (limits : Limits) (store : Store) (reached : List ℕ) → limits.loop ≡ loops → limits.depth ≡ depth → Takes (step (codes_in executable.now) limits (placed frames.old store ticks.old reached)) (placed frames.old store ticks.old reached) (placed frames.new store ticks.new reached) result }
     ensures same { StaysIn frames.old.top frames.new.top result }
     ensures room { KeepsRoom frames.old frames.new }
 {
@@ -137,7 +137,7 @@ fn fast_step(
         Some(instruction) => take(
             frames,
             ticks,
-            code,
+            executable,
             function,
             instruction,
             line + 1,
@@ -153,23 +153,23 @@ fn fast_step(
 fn take(
     frames: &mut Frames,
     ticks: &mut u64,
-    code: &LinkedCode,
+    executable: &Executable,
     function: &FunCode,
     instruction: &Instruction,
     next: usize,
     loops: u64,
     depth: u32,
 ) -> Taken
-    requires found { function_of (codes_alone code.now.functions) frames.old.top ≡ Some function.now }
+    requires found { function_of (codes_in executable.now) frames.old.top ≡ Some function.now }
     requires turns { frames.old.top.turns + ticks.old < 2 ^ 64 }
     requires next { next ≡ suc frames.old.top.line }
-    ensures exact { (limits : Limits) (store : Store) (reached : List ℕ) → limits.loop ≡ loops → limits.depth ≡ depth → Takes (act (codes_alone code.now.functions) limits instruction.now frames.old.top frames.old.below (record { store = store; ticks = ticks.old; reached = reached })) (placed frames.old store ticks.old reached) (placed frames.new store ticks.new reached) result }
+    ensures exact { (limits : Limits) (store : Store) (reached : List ℕ) → limits.loop ≡ loops → limits.depth ≡ depth → Takes (act (codes_in executable.now) limits instruction.now frames.old.top frames.old.below (record { store = store; ticks = ticks.old; reached = reached })) (placed frames.old store ticks.old reached) (placed frames.new store ticks.new reached) result }
     ensures same { StaysIn frames.old.top frames.new.top result }
     ensures room { KeepsRoom frames.old frames.new }
 {
     match instruction {
         Instruction::Numbered(kind, number) => match kind {
-            Numbered::Call => moves(call(frames, ticks, code, depth, *number)),
+            Numbered::Call => moves(call(frames, ticks, executable, depth, *number)),
             _ => stay(frames, ticks, function, instruction, next, loops),
         },
         Instruction::Plain(kind) => match kind {

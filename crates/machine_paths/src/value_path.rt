@@ -12,7 +12,7 @@ ghost use Rattle.code_meaning.specs.Machine.{Codes, act, function_of, numbered_a
 ghost use Rattle.machine_paths.specs.Fast.{Does, Keeps, KeepsRoom, KeepsTurns, Leads, StaysIn, Takes, in_world, placed};
 ghost use Rattle.machine_parts.specs.Links.{link_at, text_in};
 ghost use Rattle.machine_paths.specs.Steps.{TurnsFit};
-ghost use Rattle.machine_parts.specs.Code.{codes_alone};
+ghost use Rattle.machine_parts.specs.Code.{codes_in};
 
 use crate::fast_calls::{Taken, call, moves, stays};
 use crate::fast_path::{FastRun, jump, repeat};
@@ -67,9 +67,9 @@ pub fn run_values(
     ticks: u64,
     count: u64,
 ) -> FastRun
-    requires found { function_of (codes_alone executable.now.code.functions) frames.top ≡ Some function.now }
+    requires found { function_of (codes_in executable.now) frames.top ≡ Some function.now }
     requires counts { TurnsFit ticks (frames.top ∷ frames.below) }
-    ensures exact { (limits : Limits) (store : Store) (reached : List ℕ) → limits.loop ≡ loops → limits.depth ≡ depth → Leads (codes_alone executable.now.code.functions) limits result.steps (placed frames store ticks reached) (placed result.frames store result.ticks reached) }
+    ensures exact { (limits : Limits) (store : Store) (reached : List ℕ) → limits.loop ≡ loops → limits.depth ≡ depth → Leads (codes_in executable.now) limits result.steps (placed frames store ticks reached) (placed result.frames store result.ticks reached) }
     ensures keeps { KeepsRoom frames result.frames }
     ensures steps { result.steps ≤ count }
 {
@@ -79,7 +79,7 @@ pub fn run_values(
     'instructions: for taken in 0..count {
         match value_step(&mut frames, &mut ticks, executable, function, loops, depth) {
             Taken::Here => {}
-            Taken::Elsewhere => match frames.function_at(executable.linked(), frames.fun()) {
+            Taken::Elsewhere => match executable.function_at(&frames, frames.fun()) {
                 Some(found) => function = found,
                 None => {
                     return FastRun {
@@ -115,9 +115,9 @@ fn value_step(
     loops: u64,
     depth: u32,
 ) -> Taken
-    requires found { function_of (codes_alone executable.now.code.functions) frames.old.top ≡ Some function.now }
+    requires found { function_of (codes_in executable.now) frames.old.top ≡ Some function.now }
     requires turns { frames.old.top.turns + ticks.old < 2 ^ 64 }
-    ensures exact { (limits : Limits) (store : Store) (reached : List ℕ) → limits.loop ≡ loops → limits.depth ≡ depth → Takes (step (codes_alone executable.now.code.functions) limits (placed frames.old store ticks.old reached)) (placed frames.old store ticks.old reached) (placed frames.new store ticks.new reached) result }
+    ensures exact { (limits : Limits) (store : Store) (reached : List ℕ) → limits.loop ≡ loops → limits.depth ≡ depth → Takes (step (codes_in executable.now) limits (placed frames.old store ticks.old reached)) (placed frames.old store ticks.old reached) (placed frames.new store ticks.new reached) result }
     ensures same { StaysIn frames.old.top frames.new.top result }
     ensures room { KeepsRoom frames.old frames.new }
 {
@@ -152,18 +152,18 @@ fn take_value(
     loops: u64,
     depth: u32,
 ) -> Taken
-    requires found { function_of (codes_alone executable.now.code.functions) frames.old.top ≡ Some function.now }
+    requires found { function_of (codes_in executable.now) frames.old.top ≡ Some function.now }
     requires there { Some instruction.now ≡ slice_get function.now.lines frames.old.top.line }
     requires turns { frames.old.top.turns + ticks.old < 2 ^ 64 }
     requires next { next ≡ suc frames.old.top.line }
-    ensures exact { (limits : Limits) (store : Store) (reached : List ℕ) → limits.loop ≡ loops → limits.depth ≡ depth → Takes (act (codes_alone executable.now.code.functions) limits instruction.now frames.old.top frames.old.below (record { store = store; ticks = ticks.old; reached = reached })) (placed frames.old store ticks.old reached) (placed frames.new store ticks.new reached) result }
+    ensures exact { (limits : Limits) (store : Store) (reached : List ℕ) → limits.loop ≡ loops → limits.depth ≡ depth → Takes (act (codes_in executable.now) limits instruction.now frames.old.top frames.old.below (record { store = store; ticks = ticks.old; reached = reached })) (placed frames.old store ticks.old reached) (placed frames.new store ticks.new reached) result }
     ensures same { StaysIn frames.old.top frames.new.top result }
     ensures room { KeepsRoom frames.old frames.new }
 {
     match instruction {
         Instruction::Numbered(kind, number) => match kind {
             Numbered::Call => {
-                return moves(call(frames, ticks, executable.linked(), depth, *number));
+                return moves(call(frames, ticks, executable, depth, *number));
             }
             _ => {}
         },

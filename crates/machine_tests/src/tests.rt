@@ -3,11 +3,12 @@
 use crate::rows::{ROWS, Row};
 use allowlist::{Allow, Catalogue};
 use code_meaning::Word;
-use machine::{Activation, Executable, Limits, RunEnd, RunOutcome};
+use machine::{Activation, Executable, Limits, LinkedText, RunEnd, RunOutcome};
 use object_heap::{Heap, Which};
 use object_values::{Elements, Seed, Value};
-use pl_code::read_listing;
+use pl_code::{Code, read_listing};
 use std::alloc::{AllocError, Global};
+use std::rc::Rc;
 use std::test::Fail;
 use task_core::Turn;
 
@@ -49,8 +50,8 @@ fn end_text(alloc: Global, end: &RunEnd) -> Result<String, AllocError> {
     match end {
         RunEnd::Result(Some(word)) => word_text(alloc, word),
         RunEnd::Result(None) => String::from_str(alloc, "nothing"),
-        RunEnd::Thrown(_) => String::from_str(alloc, "thrown"),
-        RunEnd::Limit(which) => String::from_str(alloc, limit_text(*which)),
+        RunEnd::Thrown { .. } => String::from_str(alloc, "thrown"),
+        RunEnd::Limit { limit, .. } => String::from_str(alloc, limit_text(*limit)),
         RunEnd::Stuck => String::from_str(alloc, "stuck"),
     }
 }
@@ -65,6 +66,19 @@ fn left_text(alloc: Global, outcome: Option<RunOutcome>) -> Result<String, Alloc
         }
         None => String::from_str(alloc, "goes on"),
     }
+}
+
+/// A prelude whose one function does nothing.
+pub const PRELUDE: &[u8] = b"painless 1\nfun 0 free V - -\nret\nend\n";
+
+/// Code of a script beside that prelude, ready to run.
+fn ready(alloc: Global, code: Code, allow: &Allow) -> Result<Executable, AllocError> {
+    let Ok(beside) = read_listing(alloc, PRELUDE) else {
+        return Err(AllocError);
+    };
+    let text = LinkedText::new(alloc, beside, allow.share(alloc)?)?;
+    let prelude = Rc::new(alloc, text)?;
+    Executable::new(alloc, code, allow.share(alloc)?, prelude, FRAME)
 }
 
 /// Runs code in turns of `q` instructions, and tells what it leaves.
@@ -92,7 +106,7 @@ fn run_in_turns(
 fn leaves(alloc: Global, allow: &Allow, row: &Row, q: u64) -> Result<bool, AllocError> {
     match read_listing(alloc, row.listing.as_bytes()) {
         Ok(code) => {
-            let executable = Executable::new(alloc, code, allow.share(alloc)?, FRAME)?;
+            let executable = ready(alloc, code, allow)?;
             let left = run_in_turns(alloc, &executable, row, q)?;
             Ok(left.as_str() == row.left)
         }
@@ -181,7 +195,7 @@ fn members_are_reached_once(rt: HostRuntime) -> Result<(), Fail> {
         ticks: 100,
     };
     let heap = Heap::new(alloc, 100, Seed::of(b"test"));
-    let executable = Executable::new(alloc, code, allow, FRAME)?;
+    let executable = ready(alloc, code, &allow)?;
     let mut activation = Activation::start(&executable, heap, Elements::new(alloc), limits)?;
     activation.turn(100);
     let reached = match &activation.outcome() {
@@ -240,7 +254,7 @@ fn the_first_trap_that_fits_catches(rt: HostRuntime) -> Result<(), Fail> {
     let Ok(code) = read_listing(alloc, listing.as_str().as_bytes()) else {
         return Err("no code")?;
     };
-    let executable = Executable::new(alloc, code, Catalogue::full(alloc)?, FRAME)?;
+    let executable = ready(alloc, code, &Catalogue::full(alloc)?)?;
     let left = run_in_turns(alloc, &executable, &CAUGHT, 1000)?;
     assert!(rt; left.as_str() == CAUGHT.left);
     Ok(())

@@ -2,6 +2,7 @@
 
 ghost use Rattle.std.specs.Prelude.{◌<◌};
 
+use crate::tests::PRELUDE;
 use allowlist::{Allow, Catalogue};
 use code_meaning::Word;
 use machine::{Limits, RunEnd, RunOutcome};
@@ -12,8 +13,8 @@ use pl_types::classes::{CLASS_CAST_EXCEPTION, NULL_POINTER_EXCEPTION};
 use std::alloc::{AllocError, Global};
 use std::test::Fail;
 use task_core::run_order;
-use verified_machine::{VerifiedActivation, VerifiedExecutable};
-use verifier::verify;
+use verified_machine::{VerifiedActivation, VerifiedExecutable, VerifiedText};
+use verifier::{Verified, verify};
 use verifier_soundness::{fit_main, have_rows};
 
 /// `int s = 0; for (int i = 0; i < 5; i++) { s += i } s`
@@ -103,6 +104,35 @@ const LIMITS: Limits = Limits {
     ticks: 100,
 };
 
+/// The prelude, verified and made ready.
+fn prelude(alloc: Global, allow: &Allow) -> Result<Option<VerifiedText>, AllocError> {
+    let Ok(code) = read_listing(alloc, PRELUDE) else {
+        return Ok(None);
+    };
+    match verify(alloc, allow, code) {
+        Ok(verified) => {
+            if have_rows(verified.allow(), verified.code()) {
+                Ok(Some(VerifiedText::new(alloc, verified)?))
+            } else {
+                Ok(None)
+            }
+        }
+        Err(_) => Ok(None),
+    }
+}
+
+fn beside(
+    alloc: Global,
+    allow: &Allow,
+    verified: Verified,
+) -> Result<Option<VerifiedExecutable>, AllocError> {
+    match prelude(alloc, allow)? {
+        Some(text) => Ok(Some(VerifiedExecutable::new(alloc, verified, &text)?)),
+        None => Ok(None),
+    }
+}
+
+/// The code of a listing, verified, beside that prelude.
 fn verified(
     alloc: Global,
     allow: &Allow,
@@ -110,7 +140,7 @@ fn verified(
 ) -> Result<Option<VerifiedExecutable>, AllocError> {
     match read_listing(alloc, text.as_bytes()) {
         Ok(code) => match verify(alloc, allow, code) {
-            Ok(verified) => Ok(Some(VerifiedExecutable::new(alloc, verified)?)),
+            Ok(verified) => beside(alloc, allow, verified),
             Err(_) => Ok(None),
         },
         Err(_) => Ok(None),
@@ -248,7 +278,7 @@ fn a_row_is_wanting(rt: HostRuntime) -> Result<(), Fail> {
 
 fn is_limit(end: &RunEnd, wanted: Which) -> bool {
     match end {
-        RunEnd::Limit(which) => *which == wanted,
+        RunEnd::Limit { limit, .. } => *limit == wanted,
         _ => false,
     }
 }
@@ -292,8 +322,8 @@ fn is_refused(outcome: &RunOutcome, wanted: Option<u32>) -> bool {
 
 fn ends_so(outcome: &RunOutcome, wanted: Option<u32>) -> bool {
     match (&outcome.end, wanted) {
-        (RunEnd::Thrown(id), Some(class)) => is_bare_exception(&outcome.heap, *id, class),
-        (RunEnd::Limit(which), None) => *which == Which::Ticks,
+        (RunEnd::Thrown { id, .. }, Some(class)) => is_bare_exception(&outcome.heap, *id, class),
+        (RunEnd::Limit { limit, .. }, None) => *limit == Which::Ticks,
         _ => false,
     }
 }

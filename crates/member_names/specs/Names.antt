@@ -5,7 +5,7 @@ use Rattle.listing_parts.specs.Names.{is_method, is_constructor, is_field}
 use Rattle.allowlist.specs.declared.member.MemberKind.{MemberKind}
 use Rattle.allowlist.specs.declared.member.MemberKind.TheVariants as kind
 use Rattle.allowlist.specs.declared.member.MemberType.{MemberType}
-use Rattle.allowlist.specs.Allow.{AllowList, flag}
+use Rattle.allowlist.specs.Allow.{AllowList, flag, members_in}
 use Rattle.allowlist.specs.Catalogue.{catalogue}
 use Rattle.instruction_types.specs.Members.{method_of, constructor_of, field_of}
 
@@ -44,7 +44,7 @@ has_form kind.Instance = is_method
 
 -- A member's text names it, where the list allows it,
 abbrev pub TextsName : Type 0
-TextsName = (allow : AllowList) (number : ℕ) (m : MemberType) → slice_get catalogue number ≡ Some m → flag allow.members number ≡ true → named_by m.kind allow (text_of m) ≡ Some number
+TextsName = (allow : AllowList) (number : ℕ) (m : MemberType) → slice_get (members_in allow) number ≡ Some m → flag allow.members number ≡ true → named_by m.kind allow (text_of m) ≡ Some number
 
 -- .. and has the form of such a text.
 abbrev pub TextsHaveForms : Type 0

@@ -1,6 +1,6 @@
 //! The texts of members.
 ghost use Rattle.std.specs.Prelude.{◌≡◌, ◌++◌, ◌<◌, IfOk, OnOk, length, string_bytes, codes};
-ghost use Rattle.allowlist.specs.Index.{member_at};
+ghost use Rattle.allowlist.specs.Index.{member_in};
 ghost use Rattle.member_names.specs.Names as spec;
 
 use allowlist::{Allow, MemberKind, MemberType};
@@ -30,7 +30,7 @@ fn push_name(text: &mut String, member: &MemberType) -> Result<(), AllocError>
 #[tactic(auto, using(crate::proofs::Naming::owner_within, crate::proofs::Naming::at_number))]
 pub fn member_text(alloc: Global, allow: &Allow, number: u32) -> Result<String, AllocError>
     requires { number < length allow.now.members }
-    ensures { IfOk result (λ text. string_bytes text ≡ spec.text_of (member_at number)) }
+    ensures { IfOk result (λ text. string_bytes text ≡ spec.text_of (member_in allow.now number)) }
 {
     text_of(alloc, allow.member_type(number))
 }

@@ -15,10 +15,10 @@ pub enum Which {
 #[derive(Drop)]
 pub enum End {
     Value(Value),
-    /// The number of the exception that was thrown.
-    Thrown(u32),
-    /// A limit that the run has passed.
-    Limit(Which),
+    /// The number of the exception that was thrown, and the byte of the script's text at which it arose, where that is told.
+    Thrown { id: u32, place: Option<u32> },
+    /// A limit that the run has passed, and the byte of the script's text at which it arose, where that is told.
+    Limit { limit: Which, place: Option<u32> },
 }
 
 /// What a run leaves.

@@ -1,3 +1,2 @@
-pub mod Asking
-pub mod Delivered
+pub mod Ends
 pub mod Once

@@ -4,15 +4,10 @@ use Rattle.std.specs.Prelude.{◌≡◌, ℕ, ◌^◌, ◌&&◌, List, [], ◌�
 use Rattle.std.specs.Str.{bytes_eq}
 use Rattle.listing_parts.specs.Numbers.{natural_of}
 use Rattle.command_parts.specs.declared.status.Status.TheVariants as s
+use Rattle.command_parts.specs.Ends.{Content, NoCodes, Telling}
 use Rattle.command_parts.specs.Told.{Told, silent}
-use Rattle.eval_command.specs.Evaluation.{TellsFile}
-use Rattle.job_commands.specs.Codes.{ScriptCodes}
-use Rattle.eval_command.specs.Codes as eval
-use Rattle.job_file.specs.declared.context.JobCommand.TheVariants as command
-use Rattle.job_commands.specs.Checking.{TellsCheck}
-use Rattle.job_commands.specs.Listing.{AreCodesIn, TellsList}
-use Rattle.job_commands.specs.Running.{TellsRun, TellsRunTaken, RunsPast}
-use Rattle.job_commands.specs.Generated.{AreFixedCodes, TellsGen}
+use Rattle.eval_command.specs.Tellings.{eval_telling}
+use Rattle.job_commands.specs.Tellings.{check_telling, list_telling, run_telling, gen_telling}
 use Rattle.painless.specs.declared.words.Command.{Command}
 use Rattle.painless.specs.declared.words.Command.TheVariants as c
 
@@ -48,73 +43,41 @@ call_of (word ∷ []) = None
 call_of (word ∷ name ∷ []) = call_by word name
 call_of (word ∷ name ∷ other ∷ words) = None
 
--- ---- the codes
-
--- codes of the one script that a command runs or lists
-abbrev pub AreCodesNamed : Command → List ℕ → (List ℕ → Option (List ℕ)) → ScriptCodes → Type 0
-AreCodesNamed c.Eval name content codes = eval.AreCodesIn (content name) codes
-AreCodesNamed c.Check name content codes = Unit {0}
-AreCodesNamed c.List name content codes = AreCodesIn command.List content name codes
-AreCodesNamed c.Run name content codes = AreCodesIn command.Run content name codes
-
-abbrev pub AreCodesCall : Option Call → (List ℕ → Option (List ℕ)) → ScriptCodes → Type 0
-AreCodesCall (Some (over_file command name)) content codes = AreCodesNamed command name content codes
-AreCodesCall (Some (over_documents count)) content codes = AreFixedCodes codes
-AreCodesCall None content codes = Unit {0}
-
-abbrev pub AreCodes : List (List ℕ) → (List ℕ → Option (List ℕ)) → ScriptCodes → Type 0
-AreCodes words content codes = AreCodesCall (call_of words) content codes
-
 -- ---- what is told
 
-abbrev pub TellsNamed : Command → List ℕ → (List ℕ → Option (List ℕ)) → ScriptCodes → List ℕ → Told → Type 0
-TellsNamed c.Eval name content codes input told = TellsFile codes (content name) told
-TellsNamed c.Check name content codes input told = TellsCheck content name told
-TellsNamed c.List name content codes input told = TellsList content codes name told
-TellsNamed c.Run name content codes input told = TellsRun content codes name input told
+-- of a command over the file of a name
+abbrev pub telling_named : Command → List ℕ → Telling
+telling_named c.Eval name = eval_telling name
+telling_named c.Check name = check_telling name
+telling_named c.List name = list_telling name
+telling_named c.Run name = run_telling name
 
-abbrev pub TellsCall : Option Call → (List ℕ → Option (List ℕ)) → ScriptCodes → List ℕ → Told → Type 0
-TellsCall (Some (over_file command name)) content codes input told = TellsNamed command name content codes input told
-TellsCall (Some (over_documents count)) content codes input told = TellsGen codes count told
-TellsCall None content codes input told = told ≡ silent s.Usage
+-- of words that are no command: no file is asked for, and nothing is written
+abbrev pub usage_telling : Telling
+usage_telling = record {
+  Codes = NoCodes;
+  are = λ content codes. Unit {0};
+  tells = λ content codes input told. told ≡ silent s.Usage;
+  taken = λ content codes front told. ⊥;
+  past = λ content front. ⊥;
+  asks = λ content. [];
+  reads = ⊥;
+  misused = Unit {0};
+}
+
+abbrev pub telling_call : Option Call → Telling
+telling_call (Some (over_file command name)) = telling_named command name
+telling_call (Some (over_documents count)) = gen_telling count
+telling_call None = usage_telling
+
+-- of the words of a process
+abbrev pub telling_of : List (List ℕ) → Telling
+telling_of words = telling_call (call_of words)
+
+-- codes of the scripts that the words run or list, over files with this content; which kind of codes these are hangs on the command
+abbrev pub AreCodes : (words : List (List ℕ)) → Content → (telling_of words).Codes → Type 0
+AreCodes words content codes = (telling_of words).are content codes
 
 -- what is told of the words, over files with this content, codes and an input of these bytes
-abbrev pub Tells : List (List ℕ) → (List ℕ → Option (List ℕ)) → ScriptCodes → List ℕ → Told → Type 0
-Tells words content codes input told = TellsCall (call_of words) content codes input told
-
--- ---- what is told of bytes that were taken of the input before it failed
-
-abbrev pub TellsTakenNamed : Command → List ℕ → (List ℕ → Option (List ℕ)) → ScriptCodes → List ℕ → Told → Type 0
-TellsTakenNamed c.Eval name content codes front told = ⊥
-TellsTakenNamed c.Check name content codes front told = ⊥
-TellsTakenNamed c.List name content codes front told = ⊥
-TellsTakenNamed c.Run name content codes front told = TellsRunTaken content codes name front told
-
-abbrev pub TellsTakenCall : Option Call → (List ℕ → Option (List ℕ)) → ScriptCodes → List ℕ → Told → Type 0
-TellsTakenCall (Some (over_file command name)) content codes front told = TellsTakenNamed command name content codes front told
-TellsTakenCall (Some (over_documents count)) content codes front told = ⊥
-TellsTakenCall None content codes front told = ⊥
-
-abbrev pub TellsTaken : List (List ℕ) → (List ℕ → Option (List ℕ)) → ScriptCodes → List ℕ → Told → Type 0
-TellsTaken words content codes front told = TellsTakenCall (call_of words) content codes front told
-
--- ---- how many bytes are taken of the input where it has more of them than are allowed
-
-abbrev pub PastNamed : Command → List ℕ → (List ℕ → Option (List ℕ)) → List ℕ → Type 0
-PastNamed c.Eval name content front = ⊥
-PastNamed c.Check name content front = ⊥
-PastNamed c.List name content front = ⊥
-PastNamed c.Run name content front = RunsPast content name front
-
-abbrev pub PastCall : Option Call → (List ℕ → Option (List ℕ)) → List ℕ → Type 0
-PastCall (Some (over_file command name)) content front = PastNamed command name content front
-PastCall (Some (over_documents count)) content front = ⊥
-PastCall None content front = ⊥
-
-abbrev pub TakesPast : List (List ℕ) → (List ℕ → Option (List ℕ)) → List ℕ → Type 0
-TakesPast words content front = PastCall (call_of words) content front
-
--- the words call this command
-abbrev pub IsCallOf : Command → Option Call → Type 0
-IsCallOf command (Some (over_file called name)) = called ≡ command
-IsCallOf command other = ⊥
+abbrev pub Tells : (words : List (List ℕ)) → Content → (telling_of words).Codes → List ℕ → Told → Type 0
+Tells words content codes input told = (telling_of words).tells content codes input told

@@ -3,7 +3,7 @@ use Rattle.std.proofs.Common.{◌≡◌, ℕ, Bool, true, false, List, [], ◌�
 use Rattle.std.specs.Prelude.{ℤ, if◌then◌else◌}
 use Rattle.pl_types.specs.declared.ty.Ty.{Ty}
 use Rattle.allowlist.specs.Allow.{AllowList}
-use Rattle.allowlist.specs.Index.{member_at}
+use Rattle.allowlist.specs.Index.{member_in}
 use Rattle.object_values.specs.declared.value.Value.{Value}
 use Rattle.object_values.specs.declared.value.Value.TheVariants as v
 use Rattle.object_heap.specs.Store.{Store}
@@ -115,24 +115,24 @@ property_of : (store : Store) (number : ℕ) (receiver value : Value) (ofs : Lis
 property_of store number receiver value [] b = b
 property_of store number receiver value (of ∷ ofs) b = property_told store number receiver _ b
 
-written_name_by : (store : Store) (receiver : Value) (name : List ℕ) (value : Value) (found : Option NameAccess) → IsOfBuilt (name_written_by store receiver name value found)
-written_name_by store receiver name value None = tt
-written_name_by store receiver name value (Some (by_name.Key number)) = where_built store number _ _ (λ b. b)
-written_name_by store receiver name value (Some (by_name.Item number place)) = where_built store number _ _ (λ b. written_place store number receiver name value place b)
-written_name_by store receiver name value (Some (by_name.Accessor number)) = where_built store number _ _ (λ b. property_of store number receiver value (member_at number).params b)
-written_name_by store receiver name value (Some by_name.Length) = tt
+written_name_by : (allow : AllowList) (store : Store) (receiver : Value) (name : List ℕ) (value : Value) (found : Option NameAccess) → IsOfBuilt (name_written_by allow store receiver name value found)
+written_name_by allow store receiver name value None = tt
+written_name_by allow store receiver name value (Some (by_name.Key number)) = where_built store number _ _ (λ b. b)
+written_name_by allow store receiver name value (Some (by_name.Item number place)) = where_built store number _ _ (λ b. written_place store number receiver name value place b)
+written_name_by allow store receiver name value (Some (by_name.Accessor number)) = where_built store number _ _ (λ b. property_of store number receiver value (member_in allow number).params b)
+written_name_by allow store receiver name value (Some by_name.Length) = tt
 
 pub name_written_built : (allow : AllowList) (store : Store) (receiver : Value) (name : List ℕ) (value : Value) → IsOfBuilt (name_written allow store receiver name value)
 unfolding name_written
-name_written_built allow store receiver name value = written_name_by store receiver name value _
+name_written_built allow store receiver name value = written_name_by allow store receiver name value _
 
 -- ---- calls
 
-call_by : (store : Store) (receiver : Value) (name : List ℕ) (arguments : List Value) (found : Option Callee) → IsOfBuilt (called_by store receiver name arguments found)
-call_by store receiver name arguments None = tt
-call_by store receiver name arguments (Some (Iface number)) = tt
-call_by store receiver name arguments (Some (Member number)) = where_built store number _ _ (λ b. called_with store number _ b)
+call_by : (allow : AllowList) (store : Store) (receiver : Value) (name : List ℕ) (arguments : List Value) (found : Option Callee) → IsOfBuilt (called_by allow store receiver name arguments found)
+call_by allow store receiver name arguments None = tt
+call_by allow store receiver name arguments (Some (Iface number)) = tt
+call_by allow store receiver name arguments (Some (Member number)) = where_built store number _ _ (λ b. called_with store number _ b)
 
 pub method_called_built : (allow : AllowList) (store : Store) (receiver : Value) (name : List ℕ) (arguments : List Value) → IsOfBuilt (method_called allow store receiver name arguments)
 unfolding method_called
-method_called_built allow store receiver name arguments = call_by store receiver name arguments _
+method_called_built allow store receiver name arguments = call_by allow store receiver name arguments _

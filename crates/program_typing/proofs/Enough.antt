@@ -35,8 +35,8 @@ ends of g k (Done Normal s e) x = tt
 ends of g k (Done Broke s e) x = cc
 ends of g k (Done Continued s e) x = cc
 ends of g k (Done (Returned value) s e) x = x.0
-ends of g k (Thrown id s e) x = tt
-ends of g k (Over limit w) x = tt
+ends of g k (Thrown id place s e) x = tt
+ends of g k (Over limit place w) x = tt
 ends of g k More x = x
 
 -- of whichever text

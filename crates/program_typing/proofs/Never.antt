@@ -34,7 +34,7 @@ use Rattle.number_ops.specs.Operators.{is_null}
 use Rattle.number_ops.specs.Outcomes as outcomes
 use Rattle.number_ops.specs.Relations.{thrown}
 use Rattle.source_meaning.specs.Calls.{suits_member}
-use Rattle.source_meaning.specs.World.{World, Limits, Loop, Depth, Ticks, acts_in, Counted, Counts, Passes, pay_tick, allowed_in, has_loop_limit, take_turn, goes_deeper, enter, reach, reaches, pay_member}
+use Rattle.source_meaning.specs.World.{World, Limits, Arose, Loop, Depth, Ticks, acts_in, Counted, Counts, Passes, pay_tick, allowed_in, has_loop_limit, take_turn, goes_deeper, enter, reach, reaches, pay_member}
 use Rattle.source_meaning.specs.MemberCallsMembers.{is_built, does}
 use Rattle.source_meaning.specs.Access.{Access, Calls as Finds, Acts as Does, index_read, index_written, name_read, name_written, method_called}
 use Rattle.source_meaning.specs.Tree.{Name, Expr, Literal, Quoted, Local, Apply, Guarded, Logic, Conditional, Elvis, Assign, Modify, Lambda, Reference, NewReference, Exprs, None', One, Maybe, Missing, Given as Present, Stmt, Do, If, While, DoWhile, Try, Block, Break, Continue, Return, Throw, Stmts, Finish, Then, Declare, Catches, NoCatch, Catch, Variable, Fun, Programs, functions_in, type_of}
@@ -57,8 +57,8 @@ use Rattle.program_typing.proofs.Scopes.{Bound, reads, writes, leaves, enters}
 -- it is not More, what it gives is as it should be, names keep their types, and no ticks came from nowhere
 abbrev pub Fine : {A : Type 0} → (A → Type 0) → Scope → ℕ → Out A → Type 0
 Fine good g k (Done a s e) = good a × Bound g e × (s.world.ticks ≤ k)
-Fine good g k (Thrown id s e) = Bound g e × (s.world.ticks ≤ k)
-Fine good g k (Over limit w) = Unit {0}
+Fine good g k (Thrown id place s e) = Bound g e × (s.world.ticks ≤ k)
+Fine good g k (Over limit place w) = Unit {0}
 Fine good g k More = ⊥
 
 pub record Ends {A : Type 0} (good : A → Type 0) (g : Scope) (k : ℕ) (o : Out A) : Type 0 where
@@ -79,8 +79,8 @@ done x b h = record { by = (x, b, h) }
 
 fewer_ticks : {A : Type 0} (good : A → Type 0) (g : Scope) (o : Out A) (k k' : ℕ) → k ≤ k' → Fine good g k o → Fine good g k' o
 fewer_ticks good g (Done a s e) k k' h x = (x.0, x.1, omega (arith, h, x.2))
-fewer_ticks good g (Thrown id s e) k k' h x = (x.0, omega (arith, h, x.1))
-fewer_ticks good g (Over limit w) k k' h x = tt
+fewer_ticks good g (Thrown id place s e) k k' h x = (x.0, omega (arith, h, x.1))
+fewer_ticks good g (Over limit place w) k k' h x = tt
 fewer_ticks good g More k k' h x = x
 
 within : {A : Type 0} {good : A → Type 0} {g : Scope} {k k' : ℕ} {o : Out A} → k ≤ k' → Ends good g k o → Ends good g k' o
@@ -89,8 +89,8 @@ within {good = good} {g = g} {k = k} {k' = k'} {o = o} h x = record { by = fewer
 binds : {A B : Type 0} (good : A → Type 0) (also : B → Type 0) (g : Scope) (k : ℕ) (o : Out A) (next : A → State → Env → Out B) → Fine good g k o
     → ((a : A) (s : State) (e : Env) → good a → Bound g e → s.world.ticks ≤ k → Ends also g s.world.ticks (next a s e)) → Fine also g k (bind o next)
 binds good also g k (Done a s e) next x f = fewer_ticks also g _ s.world.ticks k x.2 (f a s e x.0 x.1 x.2).by
-binds good also g k (Thrown id s e) next x f = x
-binds good also g k (Over limit w) next x f = tt
+binds good also g k (Thrown id place s e) next x f = x
+binds good also g k (Over limit place w) next x f = tt
 binds good also g k More next x f = absurd x
 
 then' : {A B : Type 0} {good : A → Type 0} {also : B → Type 0} {g : Scope} {k : ℕ} {o : Out A} {next : A → State → Env → Out B} → Ends good g k o
@@ -99,8 +99,8 @@ then' {good = good} {also = also} {g = g} {k = k} {o = o} {next = next} x f = re
 
 leaving : {A : Type 0} (good : A → Type 0) (g : Scope) (k : ℕ) (y : Variable) (o : Out A) → Fine good (y ∷ g) k o → Fine good g k (leave o)
 leaving good g k y (Done a s e) x = (x.0, leaves y g e x.1, x.2)
-leaving good g k y (Thrown id s e) x = (leaves y g e x.0, x.1)
-leaving good g k y (Over limit w) x = tt
+leaving good g k y (Thrown id place s e) x = (leaves y g e x.0, x.1)
+leaving good g k y (Over limit place w) x = tt
 leaving good g k y More x = absurd x
 
 found_ends : (good : Value → Type 0) (g : Scope) (s : State) (e : Env) (o : Option Value) (value : Value) → o ≡ Some value → good value → Bound g e → Ends good g s.world.ticks (found o s e)
@@ -175,8 +175,8 @@ backs of inner g k turns e (Done Normal s' e') b x = (default_has of, b, x.2)
 backs of inner g k turns e (Done Broke s' e') b x = cc
 backs of inner g k turns e (Done Continued s' e') b x = cc
 backs of inner g k turns e (Done (Returned value) s' e') b x = (x.0, b, x.2)
-backs of inner g k turns e (Thrown id s' e') b x = (b, x.1)
-backs of inner g k turns e (Over limit w) b x = tt
+backs of inner g k turns e (Thrown id place s' e') b x = (b, x.1)
+backs of inner g k turns e (Over limit place w) b x = tt
 backs of inner g k turns e More b x = absurd x
 
 -- the casts that are due of what a function gives
@@ -310,7 +310,7 @@ module _ (funs : Programs) (limits : Limits) (formed : (text : Owner) → WellFo
     member_ends sort c ofs of values d s e g x h b =
         let at : member_at c.number ≡ x.member = get_or_from_slice_get catalogue c.number x.member (constructor 0 []) x.is in
         subst (λ of. Ends (Has of) g s.world.ticks (of_member funs limits m c values d s e)) (sym x.gives)
-        (subst (λ is. Ends (Has x.member.result) g s.world.ticks (member_applied funs limits m is c.number values d s e)) (sym x.allowed)
+        (subst (λ is. Ends (Has x.member.result) g s.world.ticks (member_applied funs limits m (allowed_in limits d.text) is c.number values d s e)) (sym x.allowed)
         (subst (λ member. Ends (Has x.member.result) g s.world.ticks (member_called funs limits m (sent member values) c.number member d s e)) (sym at)
         (sending_ends (sent x.member values) c.number x.member d s e g x.is x.built (is_sent c.number x.member sort ofs values x.is x.sort x.takes h) b)))
 
@@ -540,8 +540,8 @@ module _ (funs : Programs) (limits : Limits) (formed : (text : Owner) → WellFo
 
     any : (of : Ty) (g : Scope) (k : ℕ) (o : Out Value) → Fine (Has of) g k o → Fine Any g k o
     any of g k (Done a s e) x = (tt, x.1, x.2)
-    any of g k (Thrown id s e) x = x
-    any of g k (Over limit w) x = tt
+    any of g k (Thrown id place s e) x = x
+    any of g k (Over limit place w) x = tt
     any of g k More x = x
 
     update_ends : (update : Maybe) (d : Place) (s : State) (e : Env) (g : Scope) → UpdateAgrees (known_in funs limits d.text) g update → Bound g e → cost s.world.ticks + maybe_size update ≤ n
@@ -581,22 +581,22 @@ module _ (funs : Programs) (limits : Limits) (formed : (text : Owner) → WellFo
     returns_end (Present x) of looped d s e g a b c = then' (of_type x of d s e g a.0 a.1 b c) (λ value s e h b k. done h b (omega arith))
 
     -- a catch goes on with the names, their types and the ticks that what was thrown has left
-    caught_ends : (x : Catches) (id : ℕ) (d : Place) (s : State) (e : Env) (g : Scope) (of : Ty) (looped : Bool) → CatchesAgree (known_in funs limits d.text) of looped g x → Bound g e
-        → cost s.world.ticks + catches_size x ≤ n → Ends (FlowHas of looped) g s.world.ticks (caught funs limits m d x id s e)
-    caught_ends NoCatch id d s e g of looped a b c = record { by = (b, omega arith) }
-    caught_ends (Catch class x body rest) id d s e g of looped a b c =
+    caught_ends : (x : Catches) (id : ℕ) (place : Arose) (d : Place) (s : State) (e : Env) (g : Scope) (of : Ty) (looped : Bool) → CatchesAgree (known_in funs limits d.text) of looped g x → Bound g e
+        → cost s.world.ticks + catches_size x ≤ n → Ends (FlowHas of looped) g s.world.ticks (caught funs limits m d x id place s e)
+    caught_ends NoCatch id place d s e g of looped a b c = record { by = (b, omega arith) }
+    caught_ends (Catch class x body rest) id place d s e g of looped a b c =
         let y : Variable = record { name = x; of = t.Class class } in
         let ran = ih.stmts body d s (record { name = x; value = v.Ref id } ∷ e) (y ∷ g) of looped a.1 (refl, class_has class (v.Ref id), b) (omega (arith, c)) in
         unless (is_of_class class (slice_get s.world.store.objects id))
-        (caught_ends rest id d s e g of looped a.2 b (omega (arith, c)))
+        (caught_ends rest id place d s e g of looped a.2 b (omega (arith, c)))
         (record { by = leaving (FlowHas of looped) g s.world.ticks y _ ran.by })
 
     handled_ends : (x : Catches) (d : Place) (g : Scope) (of : Ty) (looped : Bool) (k : ℕ) (o : Out Flow) → CatchesAgree (known_in funs limits d.text) of looped g x → cost k + catches_size x ≤ n
         → Fine (FlowHas of looped) g k o → Fine (FlowHas of looped) g k (handled funs limits m d x o)
     handled_ends x d g of looped k (Done flow s e) a c h = h
-    handled_ends x d g of looped k (Thrown id s e) a c h =
-        fewer_ticks (FlowHas of looped) g _ s.world.ticks k h.1 (caught_ends x id d s e g of looped a h.0 (lesser s.world.ticks k _ n h.1 c)).by
-    handled_ends x d g of looped k (Over limit w) a c h = tt
+    handled_ends x d g of looped k (Thrown id place s e) a c h =
+        fewer_ticks (FlowHas of looped) g _ s.world.ticks k h.1 (caught_ends x id place d s e g of looped a h.0 (lesser s.world.ticks k _ n h.1 c)).by
+    handled_ends x d g of looped k (Over limit place w) a c h = tt
     handled_ends x d g of looped k More a c h = absurd h
 
     stmt_ends : (x : Stmt) (d : Place) (s : State) (e : Env) (g : Scope) (of : Ty) (looped : Bool) → StmtAgrees (known_in funs limits d.text) of looped g x → Bound g e → cost s.world.ticks + stmt_size x ≤ suc n

@@ -12,8 +12,7 @@ use Rattle.pl_types.specs.declared.ty.Ty.TheOpen.{Ty-F}
 use Rattle.allowlist.specs.declared.member.MemberKind.{MemberKind}
 use Rattle.allowlist.specs.declared.member.MemberKind.TheVariants as kind
 use Rattle.allowlist.specs.declared.member.MemberType.{MemberType}
-use Rattle.allowlist.specs.Allow.{AllowList, flag}
-use Rattle.allowlist.specs.Catalogue.{catalogue}
+use Rattle.allowlist.specs.Allow.{AllowList, flag, members_in}
 use Rattle.source_meaning.specs.MemberCallsMembers.{is_built}
 use Rattle.member_names.specs.ListingPartsNames.{is_word}
 use Rattle.member_names.specs.Names.{text_of}
@@ -85,11 +84,11 @@ abbrev pub ReceiverIsOf : MemberKind → ℕ → List Ty → Type 0
 ReceiverIsOf kind.Instance owner (from ∷ ofs) = IsGiven cast.Keep from (t.Class owner)
 ReceiverIsOf other owner ofs = Unit {0}
 
--- A call names a member: it is the catalogue's of this number and kind, built and allowed, the text is its own, it takes and gives these
+-- A call names a member: it is the list's of this number and kind, built and allowed, the text is its own, it takes and gives these
 -- types, and its receiver is of the class that has it.
 pub record MemberAgrees (funs : Known) (kind : MemberKind) (m : Member) (ofs : List Ty) (of : Ty) : Type 0 where
   pub member : MemberType
-  pub is : slice_get catalogue m.number ≡ Some member
+  pub is : slice_get (members_in funs.allowed) m.number ≡ Some member
   pub sort : member.kind ≡ kind
   pub text : m.text ≡ text_of member
   pub built : is_built m.number ≡ true

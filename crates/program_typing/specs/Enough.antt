@@ -77,8 +77,8 @@ FlowOut of Continued = ⊥
 -- It is not More, and what it gives is of the type that it should be.
 abbrev pub IsEnough : Ty → Out Flow → Type 0
 IsEnough of (Done flow s e) = FlowOut of flow
-IsEnough of (Thrown id s e) = Unit {0}
-IsEnough of (Over limit w) = Unit {0}
+IsEnough of (Thrown id place s e) = Unit {0}
+IsEnough of (Over limit place w) = Unit {0}
 IsEnough of More = ⊥
 
 -- A main script comes to an end at a bound that is enough, on all arguments of its parameters' types, where the programs of both texts are

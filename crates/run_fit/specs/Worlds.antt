@@ -6,7 +6,8 @@ use Rattle.object_heap.specs.Fits.{Rules, Fits, ValueFits, ThrownFits}
 use Rattle.def_access.specs.ContainerCallsLaws.{StillThere}
 use Rattle.run_state.specs.World.{World, Outcome, Given, Raised, Full, End, Result, Uncaught, Limited}
 
--- a world of the run: its objects fit, and those of the start are still there, each of its kind and of its class
+-- a world of the run: its objects fit, and those of the start are still there, each of its kind and of its class, or with an interface that it
+-- has taken
 pub record WorldFits (rules : Rules) (before : List Object) (w : World) : Type 0 where
   pub fits : Fits rules w.store.objects
   pub there : StillThere before w.store.objects
@@ -24,5 +25,5 @@ OutcomeFits rules before count Full = Unit {0}
 -- How the run ends: in a world of it, and with a result or an exception of that world.
 abbrev pub EndFits : {A : Type 0} → (ℕ → A → Type 0) → Rules → List Object → End A → Type 0
 EndFits good rules before (Result result w) = WorldFits rules before w × good (count_in w) result
-EndFits good rules before (Uncaught id w) = WorldFits rules before w × ThrownFits w.store.objects id
-EndFits good rules before (Limited limit w) = WorldFits rules before w
+EndFits good rules before (Uncaught id place w) = WorldFits rules before w × ThrownFits w.store.objects id
+EndFits good rules before (Limited limit place w) = WorldFits rules before w

@@ -1,9 +1,9 @@
 -- What is changed by a run: the store with its room, the ticks that are left, and the members that were reached. The meaning of a
 -- script and the meaning of its code share this page and nothing else but what operators, casts and members come to.
-use Rattle.std.specs.Prelude.{ℕ, ◌-◌, ◌==◌, ◌++◌, ◌||◌, Bool, true, false, not, List, [], ◌∷◌, nat_lt, if◌then◌else◌}
+use Rattle.std.specs.Prelude.{ℕ, ◌-◌, ◌==◌, ◌++◌, ◌||◌, Bool, true, false, not, List, [], ◌∷◌, Option, None, nat_lt, if◌then◌else◌}
 use Rattle.std.specs.List.{list_any}
 use Rattle.pl_types.specs.Host.{HostMeaning, no_host}
-use Rattle.allowlist.specs.Allow.{AllowList}
+use Rattle.allowlist.specs.Allow.{AllowList, empty_list}
 use Rattle.object_values.specs.declared.object.Owner.{Owner}
 use Rattle.object_values.specs.declared.object.Owner.TheVariants.{Script, Prelude}
 use Rattle.object_values.specs.declared.value.Value.{Value}
@@ -43,11 +43,15 @@ pub record Limits : Type 0 where
 
 -- What the runs of a script stand on whose text may call these members: the prelude's calls nothing yet, and there is no host.
 abbrev pub ground_of : AllowList → Ground
-ground_of allow = record { allowed = allow; prelude_allowed = record { classes = []; members = [] }; host = no_host }
+ground_of allow = record { allowed = allow; prelude_allowed = empty_list; host = no_host }
 
--- the limits of a run of a script with such a list: turns of a frame, and frames on top of one another
+-- the limits of a run that stands on this: turns of a frame, and frames on top of one another
+abbrev pub limits_over : ℕ → ℕ → Ground → Limits
+limits_over loop depth stands_on = record { loop = loop; depth = depth; ground = stands_on }
+
+-- .. of a script with such a list
 abbrev pub limits_for : ℕ → ℕ → AllowList → Limits
-limits_for loop depth allow = record { loop = loop; depth = depth; ground = ground_of allow }
+limits_for loop depth allow = limits_over loop depth (ground_of allow)
 
 -- the members that a text may call
 abbrev pub allowed_in : Limits → Owner → AllowList
@@ -59,12 +63,20 @@ abbrev pub has_loop_limit : Owner → Bool
 has_loop_limit Script = true
 has_loop_limit Prelude = false
 
--- How a run ends: with a result, with an exception by its number, or at a limit. Results are values in the meaning of a script, and
--- words in the meaning of its code.
+-- the byte of the script's text at which an exception or a limit arose, where it is told
+abbrev pub Arose : Type 0
+Arose = Option ℕ
+
+-- where something arises whose place is not told
+abbrev pub not_told : Arose
+not_told = None
+
+-- How a run ends: with a result, with an exception by its number, or at a limit; the latter two with the place at which they arose.
+-- Results are values in the meaning of a script, and words in the meaning of its code.
 pub data End (A : Type 0) : Type 0 where
   Result : (result : A) (w : World) → End A
-  Uncaught : (id : ℕ) (w : World) → End A
-  Limited : (limit : Limit) (w : World) → End A
+  Uncaught : (id : ℕ) (place : Arose) (w : World) → End A
+  Limited : (limit : Limit) (place : Arose) (w : World) → End A
 
 -- what comes of an operation on the store, in a world
 pub data Outcome (A : Type 0) : Type 0 where

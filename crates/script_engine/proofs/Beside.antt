@@ -1,24 +1,28 @@
--- A script beside the prelude, which has no function yet: neither the program of the prelude nor its code makes the run another.
+-- The prelude, which has no function yet, beside which scripts run: its program is well formed, and its code stands for it.
 use Rattle.std.specs.Prelude.{slice_get}
-use Rattle.std.proofs.Common.{◌≡◌, ℕ, ◌<◌, zero, suc, List, [], ◌∷◌, Option, Some, None, refl, sym, subst, ap, ◌∙◌}
+use Rattle.std.proofs.Common.{◌≡◌, ℕ, zero, suc, [], ◌∷◌, Some, None, refl, subst, ap, ◌∙◌}
 use Rattle.pl_types.specs.declared.ty.Ty.{out-Ty}
 use Rattle.object_values.specs.declared.object.Owner.TheVariants.{Prelude}
-use Rattle.static_types.specs.Allow.{AllowList}
-use Rattle.compiled_outcome.specs.World.{World, Limits, End}
+use Rattle.static_types.specs.Allow.{AllowList, empty_list}
+use Rattle.compiled_outcome.specs.World.{Limits}
 use Rattle.typed_tree.specs.declared.program.Program.{Program}
-use Rattle.pl_code.specs.declared.code.FunCode.{FunCode}
+use Rattle.pl_code.specs.declared.code.Code.{Code}
+use Rattle.codegen.specs.Effects.{effect_of, flow_of, left_by}
+use Rattle.codegen.specs.Faults.{is_bad_target, is_bad_member, is_bad_jump}
 use Rattle.codegen.specs.Programs.{fun_of, program_of}
 use Rattle.codegen.specs.Tree.{Fun}
 use Rattle.compiled_outcome.specs.Agreeing.{known, AreWellFormed, FunAgrees, WellFormed}
-use Rattle.compiled_outcome.specs.Correct.{EndsAs}
 use Rattle.compiled_outcome.specs.Stands.{Compiled, FunAt}
-use Rattle.verified_machine.specs.code_meaning_declared.word.Word.{Word}
-use Rattle.verified_machine.specs.Beside.{NextInScript}
-use Rattle.verified_machine.specs.Machine.{Next, Goes, Ends, Stuck, codes_of, start, start_at, step, after}
-use Rattle.verified_machine.specs.Runs.{steps_taken}
-use Rattle.verified_machine.proofs.Beside.{runs_alike, stay_in_script, steps_alike}
+use Rattle.compiled_runs.specs.Laws.{CodeHasRows}
+use Rattle.verified_machine.specs.Code.{Executable, TextCode}
+use Rattle.verified_machine.specs.Faults.{shape_fault, function_fault, lines_fault, line_fault, instruction_fault}
+use Rattle.verified_machine.specs.Meets.{starts, left_at, met}
+use Rattle.verified_machine.specs.Rows.{HaveRows}
+use Rattle.verified_machine.specs.Tasks.{code_under}
+use Rattle.verified_machine.specs.Verified.{CodeUnder}
 use Rattle.script_engine.specs.Ends.{beside}
-use Rattle.script_engine.specs.Preludes.{empty_program, prelude_code, prelude_main}
+use Rattle.script_engine.specs.Executables.{ScriptCode, executable_of}
+use Rattle.script_engine.specs.Preludes.{empty_program, prelude_code, prelude_main, prelude_text}
 
 -- ---- the prelude's program and its code
 
@@ -52,39 +56,29 @@ main_stands = record {
 pub prelude_compiled : Compiled Prelude (program_of empty_program) prelude_code.functions
 prelude_compiled = record { each = only_main (FunAt Prelude (program_of empty_program) prelude_code.functions) main_stands; many = refl }
 
-prelude_formed : (allow : AllowList) → WellFormed (known allow (program_of empty_program))
+pub prelude_formed : (allow : AllowList) → WellFormed (known allow (program_of empty_program))
 prelude_formed allow = record { each = only_main (λ number fun. FunAgrees (known allow (program_of empty_program)) fun) (record { present = tt; body = tt }) }
 
 -- a well-formed program and the prelude's
 pub with_prelude : (p : Program) (limits : Limits) → WellFormed (known limits.ground.allowed (program_of p)) → AreWellFormed (beside p empty_program) limits
 with_prelude p limits formed = record { script = formed; prelude = prelude_formed limits.ground.prelude_allowed }
 
--- ---- runs of code
+-- ---- its code, made ready to run
 
-starts_there : (o : Option FunCode) (words : List Word) (w : World) → NextInScript (start_at o words w)
-starts_there None words w = tt
-starts_there (Some f) words w = (refl, tt)
+pub prelude_sound : shape_fault empty_list prelude_code ≡ None
+unfolding shape_fault function_fault lines_fault line_fault instruction_fault starts left_at left_by met effect_of flow_of is_bad_target is_bad_member is_bad_jump
+prelude_sound = refl
 
-module _ (functions prelude : List FunCode) where
-  -- code begins in the script's text
-  pub starts_in_script : (words : List Word) (w : World) → NextInScript (start (codes_of functions prelude) words w)
-  starts_in_script words w = starts_there (slice_get functions 0) words w
+-- each instruction of it has a row
+pub prelude_rows : CodeHasRows → HaveRows empty_list prelude_code.functions
+prelude_rows has_rows = has_rows Prelude (known empty_list (program_of empty_program)) prelude_code.functions (prelude_formed empty_list) prelude_compiled
 
-  module _ (limits : Limits) where
-    -- beside the prelude's code as many steps are taken as beside none
-    pub as_many_taken : (k : ℕ) (from : Next) → NextInScript from → steps_taken (codes_of functions prelude) limits k from ≡ steps_taken (codes_of functions []) limits k from
-    as_many_taken zero from here = refl
-    as_many_taken (suc k) (Goes c) here =
-        ap suc
-        (as_many_taken k (step (codes_of functions prelude) limits c) (stay_in_script functions prelude limits (Goes c) 1 here)
-        ∙ ap (λ n. steps_taken (codes_of functions []) limits k n) (steps_alike functions prelude limits c here))
-    as_many_taken (suc k) (Ends r) here = refl
-    as_many_taken (suc k) Stuck here = refl
+abbrev kept_text : CodeUnder → TextCode
+kept_text c = record { code = c.code; allow = c.allow }
 
-    -- .. and they come to the same end
-    pub ends_without : (from : Next) (end : End (Option Word)) → NextInScript from → EndsAs (codes_of functions prelude) limits from end → EndsAs (codes_of functions []) limits from end
-    ends_without from end here ran = record {
-      steps = ran.steps;
-      ends = sym (runs_alike functions prelude limits from ran.steps here) ∙ ran.ends;
-      before = λ j early. ((ran.before j early).0, sym (runs_alike functions prelude limits from j here) ∙ (ran.before j early).1);
-    }
+pub prelude_is : (t : TextCode) (v : CodeUnder) (code : Code) (allow : AllowList) → code_under t ≡ v → v ≡ record { code = code; allow = allow } → code ≡ prelude_code → allow ≡ empty_list → t ≡ prelude_text
+prelude_is t v code allow is same c a = ap kept_text (is ∙ same) ∙ (λ i. record { code = c i; allow = a i })
+
+-- what is held runs beside it
+pub sees : (held : Executable) (seen : ScriptCode) → record { code = held.script.code; allow = held.script.allow; frame = held.frame } ≡ seen → held.prelude ≡ prelude_text → held ≡ executable_of seen
+sees held seen is beside = (λ i. record { script = held.script; prelude = beside i; frame = held.frame }) ∙ ap executable_of is

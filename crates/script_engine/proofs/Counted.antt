@@ -12,16 +12,14 @@ use Rattle.compiled_runs.specs.Bounds.{most_steps}
 use Rattle.verified_machine.specs.code_meaning_declared.word.Word.{Word}
 use Rattle.verified_machine.specs.Machine.{Codes, Next, Goes, Ends, Stuck, start_at, step, after}
 use Rattle.verified_machine.specs.machine_declared.configuration.Limits.{Limits}
-use Rattle.verified_machine.specs.Seen.{limits_of, codes_alone}
 use Rattle.verified_machine.specs.Runs.{steps_taken}
 use Rattle.verified_machine.specs.Activations.{counted}
 use Rattle.verified_machine.specs.Tasks.{ending, most_left, outcome_of, outcome_in, rest_from}
 use Rattle.script_engine.specs.declared.compiling.Script.{Script}
-use Rattle.script_engine.specs.Codes.{Counts, begins, functions_in, prelude_code, script_codes}
+use Rattle.script_engine.specs.Codes.{Counts, begins, functions_in, script_codes}
 use Rattle.script_engine.specs.Laws.{CodesCountOnce, ListedCodesCount}
 use Rattle.script_engine.specs.Running.{LeftOf, Comes, begun, params_of, words_in, world_at}
-use Rattle.script_engine.proofs.Beside.{as_many_taken, starts_in_script}
-use Rattle.verified_machine.proofs.Beside.{runs_alike}
+use Rattle.script_engine.specs.Seen.{limits_of}
 
 -- ---- once
 
@@ -63,8 +61,8 @@ record StopsAfter (steps : ℕ) (next : Next) (o : Outcome) : Type 0 where
 module _ (of : Ty) (ticks steps : ℕ) (o : Outcome) where
   steps_left : (e : End (Option Word)) → LeftOf of (outcome_of ticks steps e) o → o.steps ≡ steps
   steps_left (Result word w) is = is.steps
-  steps_left (Uncaught id w) is = is.steps
-  steps_left (Limited limit w) is = is.steps
+  steps_left (Uncaught id place w) is = is.steps
+  steps_left (Limited limit place w) is = is.steps
 
   stops_after : (next : Next) → Comes of (outcome_in ticks steps next) o → StopsAfter steps next o
   stops_after (Goes c) is = absurd is
@@ -78,21 +76,16 @@ zero_add n = omega arith
 pub ending_counts : (script : Script) (store : Store) (args : List Value) (limits : Limits) (o : Outcome) → Comes script.result (ending (begun script store args limits)) o
     → Counts (script_codes script) (limits_of limits script.executable.allow) args (world_at store limits) o.steps
 ending_counts script store args limits o comes =
-    let functions = script.executable.code.functions in
+    let codes = functions_in (script_codes script) in
     let kept = limits_of limits script.executable.allow in
     let from = begins (script_codes script) args (world_at store limits) in
-    let here = starts_in_script functions prelude_code.functions (words_in (params_of (slice_get functions 0)) args) (world_at store limits) in
-    let bound = most_left functions kept from in
-    let taken = steps_taken (codes_alone functions) kept bound from in
-    let stops = stops_after script.result limits.ticks (counted (0 + rest_from functions kept (Some from))) o (after (codes_alone functions) kept bound from) comes in
+    let bound = most_left codes kept from in
+    let taken = steps_taken codes kept bound from in
+    let stops = stops_after script.result limits.ticks (counted (0 + rest_from codes kept (Some from))) o (after codes kept bound from) comes in
     record {
       last = stops.last;
       steps = taken;
-      ends = record {
-        bound = bound;
-        ends = runs_alike functions prelude_code.functions kept from bound here ∙ stops.ends;
-        taken = sym (as_many_taken functions prelude_code.functions kept bound from here);
-      };
+      ends = record { bound = bound; ends = stops.ends; taken = refl };
       is = stops.after ∙ ap counted (zero_add taken);
     }
 
@@ -114,24 +107,24 @@ taken_most codes limits (suc n) (Goes c) = one_more (steps_taken codes limits n 
 taken_most codes limits (suc n) (Ends r) = omega arith
 taken_most codes limits (suc n) Stuck = omega arith
 
-started_most : (functions : List FunCode) (limits : run.Limits) (main : Option FunCode) (words : List Word) (w : World)
-    → most_left functions limits (start_at main words w) ≤ most_steps functions limits w.ticks
-started_most functions limits None words w = none_of (most_steps functions limits w.ticks)
-started_most functions limits (Some f) words w = all_of (most_steps functions limits w.ticks)
+started_most : (codes : Codes) (limits : run.Limits) (main : Option FunCode) (words : List Word) (w : World)
+    → most_left codes limits (start_at main words w) ≤ most_steps codes limits w.ticks
+started_most codes limits None words w = none_of (most_steps codes limits w.ticks)
+started_most codes limits (Some f) words w = all_of (most_steps codes limits w.ticks)
 
 counted_within : (steps taken bound most : ℕ) → steps ≡ counted taken → taken ≤ bound → bound ≤ most → steps ≤ most
 counted_within steps taken bound most is h k = omega (arith, is, h, k)
 
--- the steps of an outcome are within the bound of its script's code
+-- the steps of an outcome are within the bound of its script's code and the prelude's
 pub ending_bounded : (script : Script) (store : Store) (args : List Value) (limits : Limits) (o : Outcome) → Comes script.result (ending (begun script store args limits)) o
-    → o.steps ≤ most_steps script.executable.code.functions (limits_of limits script.executable.allow) limits.ticks
+    → o.steps ≤ most_steps (functions_in (script_codes script)) (limits_of limits script.executable.allow) limits.ticks
 ending_bounded script store args limits o comes =
-    let functions = script.executable.code.functions in
+    let codes = functions_in (script_codes script) in
     let kept = limits_of limits script.executable.allow in
-    let words = words_in (params_of (slice_get functions 0)) args in
+    let words = words_in (params_of (slice_get script.executable.code.functions 0)) args in
     let from = begins (script_codes script) args (world_at store limits) in
-    let bound = most_left functions kept from in
-    let taken = steps_taken (codes_alone functions) kept bound from in
-    let stops = stops_after script.result limits.ticks (counted (0 + rest_from functions kept (Some from))) o (after (codes_alone functions) kept bound from) comes in
-    counted_within o.steps taken bound (most_steps functions kept limits.ticks) (stops.after ∙ ap counted (zero_add taken)) (taken_most (codes_alone functions) kept bound from)
-    (started_most functions kept (slice_get functions 0) words (world_at store limits))
+    let bound = most_left codes kept from in
+    let taken = steps_taken codes kept bound from in
+    let stops = stops_after script.result limits.ticks (counted (0 + rest_from codes kept (Some from))) o (after codes kept bound from) comes in
+    counted_within o.steps taken bound (most_steps codes kept limits.ticks) (stops.after ∙ ap counted (zero_add taken)) (taken_most codes kept bound from)
+    (started_most codes kept (slice_get script.executable.code.functions 0) words (world_at store limits))

@@ -22,8 +22,8 @@ use Rattle.script_engine.proofs.Beside.{with_prelude}
 -- what was come to at a bound is come to at every greater one
 stays_end : (of : Ty) (o other : Out Flow) (end : End Value) → Stays o other → end_of of o ≡ Some end → end_of of other ≡ Some end
 stays_end of (Done flow s e) other end x is = ap (end_of of) x ∙ is
-stays_end of (Thrown id s e) other end x is = ap (end_of of) x ∙ is
-stays_end of (Over limit w) other end x is = ap (end_of of) x ∙ is
+stays_end of (Thrown id place s e) other end x is = ap (end_of of) x ∙ is
+stays_end of (Over limit place w) other end x is = ap (end_of of) x ∙ is
 stays_end of More other end x is = cc
 
 stays_in : (p prelude : Program) (limits : Limits) (k m : ℕ) → k ≤ m → (main : Fun) (o : Option Env) (w : World) (end : End Value)
@@ -49,8 +49,8 @@ comes of (Done Normal s e) x = record { end = Result (given of (default_of of)) 
 comes of (Done Broke s e) x = absurd x
 comes of (Done Continued s e) x = absurd x
 comes of (Done (Returned value) s e) x = record { end = Result (given of value) s.world; is = refl }
-comes of (Thrown id s e) x = record { end = Uncaught id s.world; is = refl }
-comes of (Over limit w) x = record { end = Limited limit w; is = refl }
+comes of (Thrown id place s e) x = record { end = Uncaught id place s.world; is = refl }
+comes of (Over limit place w) x = record { end = Limited limit place w; is = refl }
 comes of More x = absurd x
 
 pub ends_some : (allow : AllowList) (p : Program) → WellFormed (known allow (program_of p)) → (limits : Limits) → limits.ground.allowed ≡ allow → (args : List Value) → HaveAll (types_in (fun_of p.main).params) args → (w : World)

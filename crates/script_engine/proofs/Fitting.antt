@@ -1,5 +1,5 @@
 -- What a run of a script leaves fits, where its start does.
-use Rattle.std.proofs.Common.{◌≡◌, ℕ, List, [], ◌∷◌, Option, Some, None, sym, subst}
+use Rattle.std.proofs.Common.{◌≡◌, ℕ, List, [], ◌∷◌, Option, Some, None, refl, sym, subst}
 use Rattle.std.specs.Prelude.{slice_get, length, unwrap_or}
 use Rattle.pl_types.specs.declared.ty.Ty.{Ty, out-Ty}
 use Rattle.pl_types.specs.declared.ty.Ty.TheOpen.{Ty-F}
@@ -16,6 +16,7 @@ use Rattle.pl_code.specs.declared.kinds.Slot.{Slot}
 use Rattle.pl_code.specs.declared.kinds.Slot.TheVariants as slot
 use Rattle.verified_machine.specs.ContainerCallsLaws.{StillThere}
 use Rattle.compiled_outcome.specs.World.{World, Limits as run_limits, End, Result}
+use Rattle.typing_soundness.specs.ProgramRules.{FitsProgram, rules_of}
 use Rattle.typing_soundness.specs.Worlds.{EndFits, WorldFits, count_in}
 use Rattle.typing_soundness.proofs.Effects.{beginnings_fit}
 use Rattle.typing_soundness.proofs.RunFitValues.{MadeFits}
@@ -39,12 +40,15 @@ use Rattle.verified_machine.specs.machine_declared.configuration.RunEnd.TheVaria
 use Rattle.verified_machine.specs.machine_declared.activation.RunOutcome as run_outcome
 use Rattle.verified_machine.specs.Activations.{Activation}
 use Rattle.verified_machine.specs.Fitting as machine
-use Rattle.verified_machine.specs.Seen.{codes_alone}
+use Rattle.verified_machine.specs.CodeRules.{FitsCode, rules_of_codes}
+use Rattle.verified_machine.specs.Code.{codes_in}
 use Rattle.script_engine.specs.declared.compiling.Script.{Script}
+use Rattle.script_engine.specs.Codes.{functions_in, script_codes}
 use Rattle.script_engine.specs.Ends.{beside, given_layer, end_of, end_with, end_in}
-use Rattle.script_engine.specs.Fitting.{EndFits as LeftEndFits, LeavesFit}
+use Rattle.script_engine.specs.Fitting.{EndFits as LeftEndFits, LeavesFit, KeepsItsProgram}
 use Rattle.script_engine.specs.Laws.{ProgramsFit}
-use Rattle.script_engine.specs.Running.{word_in, words_in, params_of, value_by, value_of, end_left, LeftOf, world_at, begun}
+use Rattle.script_engine.specs.Preludes.{empty_program}
+use Rattle.script_engine.specs.Running.{word_in, words_in, params_of, value_by, value_of, end_left, end_seen, LeftOf, RunsAsItsProgram, world_at, world_left, begun}
 
 -- ---- where it begins
 
@@ -58,12 +62,14 @@ words_fit n [] values f = tt
 words_fit n (kind ∷ kinds) [] f = tt
 words_fit n (kind ∷ kinds) (value ∷ values) f = (word_fits n kind value f.0, words_fit n kinds values f.1)
 
-pub began_fits : (script : Script) (store : Store) (args : List Value) (limits : Limits) (a : Activation) → a ≡ begun script store args limits → (rules : Rules) → Fits rules store.objects
-    → AllFit (length store.objects) args → machine.NowFits rules store.objects a.now
-began_fits script store args limits a is rules f g =
-    subst (λ (x : Activation). machine.NowFits rules store.objects x.now) (sym is)
-    (starts_fit_all rules (codes_alone script.executable.code.functions) (words_in (params_of (slice_get script.executable.code.functions 0)) args) (world_at store limits) f
-    (words_fit (length store.objects) (params_of (slice_get script.executable.code.functions 0)) args g))
+-- what a run leaves that keeps to the rules of its codes, where it stands, it leaves by the rules of the script's and the prelude's
+pub began_leaves : (script : Script) (store : Store) (args : List Value) (limits : Limits) (a : Activation) (Left : Rules → Type 0) → a ≡ begun script store args limits
+    → (machine.NowFits (rules_of_codes (codes_in a.executable)) store.objects a.now → Left (rules_of_codes (codes_in a.executable)))
+    → FitsCode (functions_in (script_codes script)) store → AllFit (length store.objects) args → Left (rules_of_codes (functions_in (script_codes script)))
+began_leaves script store args limits a Left is leaves f g =
+    let params = params_of (slice_get script.executable.code.functions 0) in
+    subst (λ (x : Activation). machine.NowFits (rules_of_codes (codes_in x.executable)) store.objects x.now → Left (rules_of_codes (codes_in x.executable))) is leaves
+    (starts_fit_all (functions_in (script_codes script)) (words_in params args) (world_at store limits) f (words_fit (length store.objects) params args g))
 
 -- ---- what it leaves
 
@@ -95,8 +101,8 @@ left_by_end : (of : Ty) (end : RunEnd) (heap : Store) (reached : List ℕ) (o : 
     → (rules : Rules) (before : List Object) → machine.EndFits rules before (record { store = heap; ticks = 0; reached = reached }) end → LeavesFit rules before o
 left_by_end of (r.Result word) heap reached o is same rules before h =
     left_with rules before heap o (l.Value (value_of of word)) same (sym (some_end _ o.end is)) h.0.fits h.0.there (value_fits (length heap.objects) (out-Ty of) word h.1)
-left_by_end of (r.Thrown id) heap reached o is same rules before h = left_with rules before heap o (l.Thrown id) same (sym (some_end _ o.end is)) h.0.fits h.0.there h.1
-left_by_end of (r.Limit which) heap reached o is same rules before h = left_with rules before heap o (l.Limit which) same (sym (some_end _ o.end is)) h.fits h.there tt
+left_by_end of (r.Thrown id place) heap reached o is same rules before h = left_with rules before heap o (l.Thrown id place) same (sym (some_end _ o.end is)) h.0.fits h.0.there h.1
+left_by_end of (r.Limit which place) heap reached o is same rules before h = left_with rules before heap o (l.Limit which place) same (sym (some_end _ o.end is)) h.fits h.there tt
 left_by_end of r.Stuck heap reached o is same rules before h = absurd (cc)
 
 pub left_from : (of : Ty) (ran : run_outcome.RunOutcome) (o : Outcome) → LeftOf of ran o → (rules : Rules) (before : List Object) → machine.LeavesFit rules before ran → LeavesFit rules before o
@@ -126,18 +132,32 @@ ends_with rules before of (Some value) w h f = (h, given_layer_fits (count_in w)
 
 ends_of : (rules : Rules) (before : List Object) (n : ℕ) (of : Ty) (o : Out Flow) → OutFits FlowFits rules before n o → EndsFit rules before (end_of of o)
 ends_of rules before n of (Done flow s e) h = ends_with rules before of (returned of flow) s.world h.0.0 (source.returned_fits (count_in s.world) of flow h.2)
-ends_of rules before n of (Thrown id s e) h = (h.0.0, h.2)
-ends_of rules before n of (Over limit w) h = h
+ends_of rules before n of (Thrown id place s e) h = (h.0.0, h.2)
+ends_of rules before n of (Over limit place w) h = h
 ends_of rules before n of More h = tt
 
-ends_in : (rules : Rules) (p prelude : Program) (limits : run_limits) (bound : ℕ) (main : Fun) (e : Option Env) (w : World) → Fits rules w.store.objects → source.EntryFits (count_in w) e
-    → EndsFit rules w.store.objects (end_in p prelude limits bound main e w)
-ends_in rules p prelude limits bound main None w f g = tt
-ends_in rules p prelude limits bound main (Some e) w f g =
-    ends_of rules w.store.objects (count_in w) main.result _
-    ((meanings_fit rules w.store.objects (beside p prelude) limits bound).stmts main.body (record { text = script_text; depth = 0 }) (record { world = w; turns = 0 }) e (beginnings_fit rules w f, g))
+ends_in : (p prelude : Program) (limits : run_limits) (bound : ℕ) (main : Fun) (e : Option Env) (w : World) → FitsProgram (beside p prelude) w.store → source.EntryFits (count_in w) e
+    → EndsFit (rules_of (beside p prelude)) w.store.objects (end_in p prelude limits bound main e w)
+ends_in p prelude limits bound main None w f g = tt
+ends_in p prelude limits bound main (Some e) w f g =
+    ends_of (rules_of (beside p prelude)) w.store.objects (count_in w) main.result _
+    ((meanings_fit w.store.objects (beside p prelude) limits bound).stmts main.body (record { text = script_text; depth = 0 }) (record { world = w; turns = 0 }) e
+    (beginnings_fit (rules_of (beside p prelude)) w f, g))
 
 pub programs_fit : ProgramsFit
-programs_fit rules p prelude limits args w end f g run =
-    subst (EndsFit rules w.store.objects) run.is
-    (ends_in rules p prelude limits run.bound (fun_of p.main) (entry (fun_of p.main).params args []) w f (source.entry_fits (count_in w) (fun_of p.main).params args [] g tt))
+programs_fit p prelude limits args w end f g run =
+    subst (EndsFit (rules_of (beside p prelude)) w.store.objects) run.is
+    (ends_in p prelude limits run.bound (fun_of p.main) (entry (fun_of p.main).params args []) w f (source.entry_fits (count_in w) (fun_of p.main).params args [] g tt))
+
+-- ---- its script, by the rules of its program
+
+left_seen : (rules : Rules) (before : List Object) (o : Outcome) (left : ℕ) (end : left_end.End) → o.end ≡ end → EndFits ValueFits rules before (end_seen end (world_left o left)) → LeavesFit rules before o
+left_seen rules before o left (l.Value value) is h = record { fits = h.0.fits; there = h.0.there; end = subst (LeftEndFits o.heap.objects) (sym is) h.1 }
+left_seen rules before o left (l.Thrown id place) is h = record { fits = h.0.fits; there = h.0.there; end = subst (LeftEndFits o.heap.objects) (sym is) h.1 }
+left_seen rules before o left (l.Limit which place) is h = record { fits = h.fits; there = h.there; end = subst (LeftEndFits o.heap.objects) (sym is) tt }
+
+pub scripts_keep : (script : Script) (store : Store) (args : List Value) (limits : Limits) (o : Outcome) → RunsAsItsProgram script store args limits o → KeepsItsProgram script store args o
+scripts_keep script store args limits o runs allow context p is have f g =
+    let ran = runs allow context p is have in
+    left_seen (rules_of (beside p empty_program)) store.objects o ran.left o.end refl
+    (programs_fit p empty_program _ args (world_at store limits) (end_seen o.end (world_left o ran.left)) f g ran.ends)

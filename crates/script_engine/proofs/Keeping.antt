@@ -10,21 +10,18 @@ use Rattle.object_heap.specs.Objects.{Kind}
 use Rattle.codegen.specs.Programs.{variable_of}
 use Rattle.compiled_outcome.specs.Agreeing.{types_in}
 use Rattle.typing_soundness.specs.Outs.{AreTyped}
-use Rattle.typing_soundness.specs.ProgramRules.{rules_of}
 use Rattle.typing_soundness.specs.Typing.{is_typed_layer}
 use Rattle.typing_soundness.proofs.SourceTypingValues.{all_there}
-use Rattle.script_engine.specs.Ends.{beside}
 use Rattle.script_engine.specs.Preludes.{empty_program}
 use Rattle.script_engine.specs.Keeping.{ProgramsKeepTheirRules}
 use Rattle.script_engine.proofs.Fitting.{programs_fit}
 use Rattle.script_engine.proofs.Typed.{programs_are_typed}
 
 pub programs_keep : ProgramsKeepTheirRules
-programs_keep allow context text p good is limits allowed args w end f h run =
-    let rules = rules_of (beside p empty_program) in (
-      programs_fit rules p empty_program limits args w end f (all_there w.store.objects (types_in (map variable_of context.variables)) args h) run,
-      programs_are_typed rules allow context text p good is limits allowed args w end refl f h run,
-    )
+programs_keep allow context text p good is limits allowed args w end f h run = (
+  programs_fit p empty_program limits args w end f (all_there w.store.objects (types_in (map variable_of context.variables)) args h) run,
+  programs_are_typed allow context text p good is limits allowed args w end f h run,
+)
 
 -- ---- arguments of types that a store gives
 

@@ -18,8 +18,8 @@ use Rattle.script_engine.specs.Running.{end_left, world_left, IsEnd, LeftOf, Com
 -- an end of a run of verified code is none of a stuck one
 pub fitting_end : (code : List FunCode) (end : run_end.RunEnd) → EndFits code end → IsEnd end
 fitting_end code (r.Result word) fits = tt
-fitting_end code (r.Thrown id) fits = tt
-fitting_end code (r.Limit which) fits = tt
+fitting_end code (r.Thrown id place) fits = tt
+fitting_end code (r.Limit which place) fits = tt
 fitting_end code r.Stuck fits = fits
 
 pub comes_from : (of : Ty) (ran : run_outcome.RunOutcome) (ending : Option run_outcome.RunOutcome) (o : Outcome) → ending ≡ Some ran → LeftOf of ran o → Comes of ending o
@@ -49,12 +49,12 @@ module _ (of : Ty) (ticks steps : ℕ) (o : Outcome) where
 
   ends_with : (e : End (Option Word)) → LeftOf of (outcome_of ticks steps e) o → EndsWith of ticks (Ends e) o
   ends_with (Result word w) is = record { left = w.ticks; end = r.Result word; read = is.end; stands = ap (λ x. Ends (Result word x)) (same_world (Result word w) w is refl refl); ticks = is.ticks; over = refl }
-  ends_with (Uncaught id w) is = record { left = w.ticks; end = r.Thrown id; read = is.end; stands = ap (λ x. Ends (Uncaught id x)) (same_world (Uncaught id w) w is refl refl); ticks = is.ticks; over = refl }
-  ends_with (Limited limit w) is = record {
+  ends_with (Uncaught id place w) is = record { left = w.ticks; end = r.Thrown id place; read = is.end; stands = ap (λ x. Ends (Uncaught id place x)) (same_world (Uncaught id place w) w is refl refl); ticks = is.ticks; over = refl }
+  ends_with (Limited limit place w) is = record {
     left = w.ticks;
-    end = r.Limit (which_of limit);
+    end = r.Limit (which_of limit) place;
     read = is.end;
-    stands = ap (λ x. Ends (Limited limit x)) (same_world (Limited limit w) w is refl refl) ∙ ap (λ l. Ends (Limited l (world_left o w.ticks))) (same_limit limit);
+    stands = ap (λ x. Ends (Limited limit place x)) (same_world (Limited limit place w) w is refl refl) ∙ ap (λ l. Ends (Limited l place (world_left o w.ticks))) (same_limit limit);
     ticks = is.ticks;
     over = refl;
   }

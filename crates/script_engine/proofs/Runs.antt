@@ -14,7 +14,7 @@ use Rattle.object_heap.specs.declared.outcome.End as left_end
 use Rattle.object_heap.specs.declared.outcome.End.TheVariants as l
 use Rattle.object_heap.specs.declared.outcome.Outcome.{Outcome}
 use Rattle.compiled_outcome.specs.World as run
-use Rattle.compiled_outcome.specs.World.{World, Limit, End, Result, Uncaught, Limited}
+use Rattle.compiled_outcome.specs.World.{World, Limit, Arose, End, Result, Uncaught, Limited}
 use Rattle.typed_tree.specs.declared.program.Program.{Program}
 use Rattle.codegen.specs.Programs.{fun_of, program_of, variable_of}
 use Rattle.codegen.specs.Tree.{Variable, Fun}
@@ -37,14 +37,17 @@ use Rattle.verified_machine.specs.Machine.{Next, Goes, Ends, start, after}
 use Rattle.verified_machine.specs.machine_declared.configuration.Limits.{Limits}
 use Rattle.verified_machine.specs.machine_declared.configuration.RunEnd as run_end
 use Rattle.verified_machine.specs.machine_declared.configuration.RunEnd.TheVariants as r
-use Rattle.verified_machine.specs.Seen.{codes_alone, limits_of, limit_of, ended}
+use Rattle.verified_machine.specs.Code.{Executable, codes_in}
+use Rattle.verified_machine.specs.Seen.{limits_in, limit_of, ended}
 use Rattle.verified_machine.specs.Activations.{Activation, later, is_over, counted}
 use Rattle.verified_machine.proofs.Turning.{comes_to_its_end}
 use Rattle.script_engine.specs.declared.compiling.Script.{Script}
 use Rattle.script_engine.specs.Ends.{beside, end_of, end_in, end_with, given, given_layer}
 use Rattle.script_engine.specs.Codes.{begins, functions_in, script_codes}
-use Rattle.script_engine.specs.Preludes.{empty_program, prelude_code}
-use Rattle.script_engine.proofs.Beside.{ends_without, prelude_compiled, starts_in_script, with_prelude}
+use Rattle.script_engine.specs.Executables.{executable_of}
+use Rattle.script_engine.specs.Preludes.{empty_program}
+use Rattle.script_engine.specs.Seen.{limits_of}
+use Rattle.script_engine.proofs.Beside.{prelude_compiled, with_prelude}
 use Rattle.script_engine.specs.Running.{value_by, value_of, word_in, words_in, params_of, end_left, end_seen, world_left, world_at, begun, Comes, IsOutcome, RunsAsItsProgram, TakesTyped}
 use Rattle.script_engine.specs.Compiling.{IsScriptOf}
 use Rattle.script_engine.proofs.Left.{comes_with}
@@ -52,6 +55,7 @@ use Rattle.verified_machine.specs.Tasks.{ending, most_left, rest_from}
 use Rattle.verified_machine.specs.Fits.{main_params}
 use Rattle.verified_machine.specs.Fits.{kind_of as word_kind, kinds_of as word_kinds}
 use Rattle.pl_code.specs.declared.code.FunCode.{FunCode}
+use Rattle.pl_code.specs.declared.kinds.Slot.{Slot}
 use Rattle.static_types.specs.typing_rules_declared.header.ContextTypes.{ContextTypes}
 use Rattle.static_types.specs.Allow.{AllowList}
 
@@ -74,13 +78,13 @@ first_or_last n m = elim (cases_order n m) [
   | inr lt ↦ elim lt [ inl below ↦ inl (omega arith) | inr above ↦ inr above ]
 ]
 
-ends_there : (a : Activation) (from : Next) (end : End (Option Word)) → a.now ≡ Some from → EndsAs (codes_alone a.code) (limits_of a.limits a.allow) from end → (q : ℕ)
+ends_there : (a : Activation) (from : Next) (end : End (Option Word)) → a.now ≡ Some from → EndsAs (codes_in a.executable) (limits_in a.executable a.limits) from end → (q : ℕ)
     → IsTrue (is_over (later q a).now) → (later q a).now ≡ Some (Ends end)
 ends_there a from end stands ran q over = elim (first_or_last ran.steps q) [
   | inl within ↦ comes_to_its_end a from ran.steps q end stands ran.ends within
   | inr early ↦
       (let c = ran.before q early in
-      let goes : (later q a).now ≡ Some (Goes c.0) = ap (option_map (after (codes_alone a.code) (limits_of a.limits a.allow) q)) stands ∙ ap (λ n. Some n) c.1 in
+      let goes : (later q a).now ≡ Some (Goes c.0) = ap (option_map (after (codes_in a.executable) (limits_in a.executable a.limits) q)) stands ∙ ap (λ n. Some n) c.1 in
       absurd (not_going c.0 (subst (λ now. IsTrue (is_over now)) goes over)))
 ]
 
@@ -148,41 +152,49 @@ with_value of (Some value) has s w word is =
 pub value_end : (of : Ty) (o : Out Flow) → IsEnough of o → (word : Option Word) (w : World) → code.end_of of o ≡ Some (Result word w)
     → end_of of o ≡ Some (Result (value_of of word) w)
 value_end of (Done flow s e) enough word w is = with_value of (returned of flow) (given_has of flow enough) s.world w word is
-value_end of (Thrown id s e) enough word w is = cc
-value_end of (Over limit s) enough word w is = cc
+value_end of (Thrown id place s e) enough word w is = cc
+value_end of (Over limit place s) enough word w is = cc
 value_end of More enough word w is = cc
 
-not_thrown : (of : Ty) (value : Option Value) (s w : World) (id : ℕ) → code.end_with of value s ≡ Some (Uncaught id w) → ⊥
-not_thrown of None s w id is = cc
-not_thrown of (Some value) s w id is = cc
+not_thrown : (of : Ty) (value : Option Value) (s w : World) (id : ℕ) (place : Arose) → code.end_with of value s ≡ Some (Uncaught id place w) → ⊥
+not_thrown of None s w id place is = cc
+not_thrown of (Some value) s w id place is = cc
 
-abbrev uncaught : ℕ → World → Option (End Value)
-uncaught id w = Some (Uncaught id w)
+abbrev uncaught : ℕ → Arose → World → Option (End Value)
+uncaught id place w = Some (Uncaught id place w)
 
-thrown_at : (id other : ℕ) (s w : World) → id ≡ other → s ≡ w → uncaught id s ≡ uncaught other w
-thrown_at id other s w i e = ap (λ x. uncaught x s) i ∙ ap (uncaught other) e
+thrown_at : (id other : ℕ) (place there : Arose) (s w : World) → id ≡ other → place ≡ there → s ≡ w → uncaught id place s ≡ uncaught other there w
+thrown_at id other place there s w i p e = ap (λ x. uncaught x place s) i ∙ ap (λ x. uncaught other x s) p ∙ ap (uncaught other there) e
 
-pub thrown_end : (of : Ty) (o : Out Flow) (id : ℕ) (w : World) → code.end_of of o ≡ Some (Uncaught id w) → end_of of o ≡ Some (Uncaught id w)
-thrown_end of (Done flow s e) id w is = absurd (not_thrown of (returned of flow) s.world w id is)
-thrown_end of (Thrown i s e) id w is = let ids : i ≡ id = cc in let worlds : s.world ≡ w = cc in thrown_at i id s.world w ids worlds
-thrown_end of (Over limit s) id w is = cc
-thrown_end of More id w is = cc
+pub thrown_end : (of : Ty) (o : Out Flow) (id : ℕ) (place : Arose) (w : World) → code.end_of of o ≡ Some (Uncaught id place w) → end_of of o ≡ Some (Uncaught id place w)
+thrown_end of (Done flow s e) id place w is = absurd (not_thrown of (returned of flow) s.world w id place is)
+thrown_end of (Thrown i p s e) id place w is =
+    let ids : i ≡ id = cc in
+    let places : p ≡ place = cc in
+    let worlds : s.world ≡ w = cc in
+    thrown_at i id p place s.world w ids places worlds
+thrown_end of (Over limit p s) id place w is = cc
+thrown_end of More id place w is = cc
 
-not_limited : (of : Ty) (value : Option Value) (s w : World) (limit : Limit) → code.end_with of value s ≡ Some (Limited limit w) → ⊥
-not_limited of None s w limit is = cc
-not_limited of (Some value) s w limit is = cc
+not_limited : (of : Ty) (value : Option Value) (s w : World) (limit : Limit) (place : Arose) → code.end_with of value s ≡ Some (Limited limit place w) → ⊥
+not_limited of None s w limit place is = cc
+not_limited of (Some value) s w limit place is = cc
 
-abbrev limited : Limit → World → Option (End Value)
-limited limit w = Some (Limited limit w)
+abbrev limited : Limit → Arose → World → Option (End Value)
+limited limit place w = Some (Limited limit place w)
 
-limited_at : (limit other : Limit) (s w : World) → limit ≡ other → s ≡ w → limited limit s ≡ limited other w
-limited_at limit other s w l e = ap (λ x. limited x s) l ∙ ap (limited other) e
+limited_at : (limit other : Limit) (place there : Arose) (s w : World) → limit ≡ other → place ≡ there → s ≡ w → limited limit place s ≡ limited other there w
+limited_at limit other place there s w l p e = ap (λ x. limited x place s) l ∙ ap (λ x. limited other x s) p ∙ ap (limited other there) e
 
-pub limited_end : (of : Ty) (o : Out Flow) (limit : Limit) (w : World) → code.end_of of o ≡ Some (Limited limit w) → end_of of o ≡ Some (Limited limit w)
-limited_end of (Done flow s e) limit w is = absurd (not_limited of (returned of flow) s.world w limit is)
-limited_end of (Thrown id s e) limit w is = cc
-limited_end of (Over l s) limit w is = let ls : l ≡ limit = cc in let worlds : s ≡ w = cc in limited_at l limit s w ls worlds
-limited_end of More limit w is = cc
+pub limited_end : (of : Ty) (o : Out Flow) (limit : Limit) (place : Arose) (w : World) → code.end_of of o ≡ Some (Limited limit place w) → end_of of o ≡ Some (Limited limit place w)
+limited_end of (Done flow s e) limit place w is = absurd (not_limited of (returned of flow) s.world w limit place is)
+limited_end of (Thrown id p s e) limit place w is = cc
+limited_end of (Over l p s) limit place w is =
+    let ls : l ≡ limit = cc in
+    let places : p ≡ place = cc in
+    let worlds : s ≡ w = cc in
+    limited_at l limit p place s w ls places worlds
+limited_end of More limit place w is = cc
 
 -- the same of the whole run, which began in an environment
 
@@ -199,14 +211,14 @@ end_read p limits bound main (Some e) begun enough (r.Result word) left w seen w
     let ends : whole ≡ Result word w = cc in
     value_end main.result (main_out p limits bound main begun e) (enough e refl) word w (is ∙ ap (λ x. Some x) ends)
     ∙ ap (λ x. Some (end_seen x w)) (let given : l.Value (value_of main.result word) ≡ left = cc in given)
-end_read p limits bound main (Some e) begun enough (r.Thrown id) left w seen whole is same =
-    let ends : whole ≡ Uncaught id w = cc in
-    thrown_end main.result (main_out p limits bound main begun e) id w (is ∙ ap (λ x. Some x) ends)
-    ∙ ap (λ x. Some (end_seen x w)) (let given : l.Thrown id ≡ left = cc in given)
-end_read p limits bound main (Some e) begun enough (r.Limit which) left w seen whole is same =
-    let ends : whole ≡ Limited (limit_of which) w = cc in
-    limited_end main.result (main_out p limits bound main begun e) (limit_of which) w (is ∙ ap (λ x. Some x) ends)
-    ∙ ap (λ x. Some (end_seen x w)) (let given : l.Limit which ≡ left = cc in given)
+end_read p limits bound main (Some e) begun enough (r.Thrown id place) left w seen whole is same =
+    let ends : whole ≡ Uncaught id place w = cc in
+    thrown_end main.result (main_out p limits bound main begun e) id place w (is ∙ ap (λ x. Some x) ends)
+    ∙ ap (λ x. Some (end_seen x w)) (let given : l.Thrown id place ≡ left = cc in given)
+end_read p limits bound main (Some e) begun enough (r.Limit which place) left w seen whole is same =
+    let ends : whole ≡ Limited (limit_of which) place w = cc in
+    limited_end main.result (main_out p limits bound main begun e) (limit_of which) place w (is ∙ ap (λ x. Some x) ends)
+    ∙ ap (λ x. Some (end_seen x w)) (let given : l.Limit which place ≡ left = cc in given)
 end_read p limits bound main (Some e) begun enough r.Stuck left w seen whole is same = cc
 
 -- ---- arguments
@@ -277,21 +289,17 @@ both_end outcomes allow context p script is limits allowed args have w =
     }
 
 runs_as_its_program : CodeEndsAsPrograms → (script : Script) (store : Store) (args : List Value) (limits : Limits) (a : Activation) (q : ℕ) (o : Outcome)
-    → a ≡ record { code = script.executable.code.functions; limits = limits; allow = script.executable.allow; frame = script.executable.frame; now = Some (start (codes_alone script.executable.code.functions) (words_in (params_of (slice_get script.executable.code.functions 0)) args) (world_at store limits)); steps = 0 }
-    → IsTrue (is_over (later q a).now) → LeftBy script.result (later q a) o → RunsAsItsProgram script store args limits o
-runs_as_its_program outcomes script store args limits a q o begun over by allow context p is have =
+    → a ≡ begun script store args limits → IsTrue (is_over (later q a).now) → LeftBy script.result (later q a) o → RunsAsItsProgram script store args limits o
+runs_as_its_program outcomes script store args limits a q o from_start over by allow context p is have =
     let main = fun_of p.main in
-    let functions = script.executable.code.functions in
     let gives : script.result ≡ main.result = is.kept ∙ sym is.result in
     let w = world_at store limits in
     let kept = limits_of limits script.executable.allow in
     let both = both_end outcomes allow context p script is kept is.allowed args have w in
-    let from = start (codes_alone functions) (words_in (params_of (slice_get functions 0)) args) w in
-    let b : Activation = record { code = functions; limits = limits; allow = script.executable.allow; frame = script.executable.frame; now = Some from; steps = 0 } in
-    let words = words_in (params_of (slice_get functions 0)) args in
-    let alone = ends_without functions prelude_code.functions kept from both.end (starts_in_script functions prelude_code.functions words w) both.code_ends in
-    let stands : (later q b).now ≡ Some (Ends both.end) = ends_there b from both.end refl alone q (subst (λ x. IsTrue (is_over (later q x).now)) begun over) in
-    let there : Some (Ends both.end) ≡ Some (ended by.end (world_left o by.left)) = sym stands ∙ sym (ap (λ x. (later q x).now) begun) ∙ by.stands in
+    let from = begins (script_codes script) args w in
+    let b : Activation = begun script store args limits in
+    let stands : (later q b).now ≡ Some (Ends both.end) = ends_there b from both.end refl both.code_ends q (subst (λ x. IsTrue (is_over (later q x).now)) from_start over) in
+    let there : Some (Ends both.end) ≡ Some (ended by.end (world_left o by.left)) = sym stands ∙ sym (ap (λ x. (later q x).now) from_start) ∙ by.stands in
     let same : Ends both.end ≡ ended by.end (world_left o by.left) = cc in
     subst (λ list. IsOutcome list p empty_program store args limits o) is.allowed (record {
       left = by.left;
@@ -299,7 +307,7 @@ runs_as_its_program outcomes script store args limits a q o begun over by allow 
         bound = both.bound;
         is = end_read p kept both.bound main (entry main.params args []) w both.comes by.end o.end (world_left o by.left) (subst (λ of. end_left of by.end ≡ Some o.end) gives by.read) both.end both.is same;
       };
-      ticks = by.ticks ∙ ap (λ x. (later q x).limits.ticks - by.left) begun;
+      ticks = by.ticks ∙ ap (λ x. (later q x).limits.ticks - by.left) from_start;
     })
 
 -- .. and so does what it comes to
@@ -307,12 +315,21 @@ pub ending_runs : CodeEndsAsPrograms → (script : Script) (store : Store) (args
     → Comes script.result (ending (begun script store args limits)) o → RunsAsItsProgram script store args limits o
 ending_runs outcomes script store args limits o comes =
     let a = begun script store args limits in
-    let from = start (codes_alone script.executable.code.functions) (words_in (params_of (slice_get script.executable.code.functions 0)) args) (world_at store limits) in
+    let codes = functions_in (script_codes script) in
+    let from = begins (script_codes script) args (world_at store limits) in
     let kept = limits_of limits script.executable.allow in
-    let k = most_left script.executable.code.functions kept from in
-    let n = after (codes_alone script.executable.code.functions) kept k from in
-    let ends = comes_with script.result limits.ticks (counted (0 + rest_from script.executable.code.functions kept (Some from))) o n comes in
+    let k = most_left codes kept from in
+    let n = after codes kept k from in
+    let ends = comes_with script.result limits.ticks (counted (0 + rest_from codes kept (Some from))) o n comes in
     runs_as_its_program outcomes script store args limits a k o refl ends.over (record { left = ends.left; end = ends.end; read = ends.read; stands = ap (λ x. Some x) ends.stands; ticks = ends.ticks })
+
+-- where a run stands that the machine has begun
+pub begun_so : (script : Script) (store : Store) (args : List Value) (limits : Limits) (held : Executable) (kinds : List Slot) (words : List Word) (a : Activation) → held ≡ executable_of script.executable
+    → kinds ≡ params_of (slice_get script.executable.code.functions 0) → words ≡ words_in kinds args
+    → a ≡ record { executable = held; limits = limits; now = Some (start (codes_in held) words (world_at store limits)); steps = 0 } → a ≡ begun script store args limits
+begun_so script store args limits held kinds words a same are given is =
+    let taken : words ≡ words_in (params_of (slice_get script.executable.code.functions 0)) args = given ∙ ap (λ ks. words_in ks args) are in
+    is ∙ (λ i. record { executable = same i; limits = limits; now = Some (start (codes_in (same i)) (taken i) (world_at store limits)); steps = 0 })
 
 -- ---- arguments
 

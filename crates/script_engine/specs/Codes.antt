@@ -21,12 +21,12 @@ use Rattle.verified_machine.specs.code_meaning_declared.word.Word.{Word}
 use Rattle.verified_machine.specs.Words.{start_of}
 use Rattle.verified_machine.specs.Machine.{Codes, Next, Goes, Ends, Stuck, codes_of, start, after}
 use Rattle.verified_machine.specs.machine_declared.configuration.Limits as machine
-use Rattle.verified_machine.specs.Seen.{limits_of}
 use Rattle.verified_machine.specs.Runs.{steps_taken}
 use Rattle.verified_machine.specs.Activations.{counted}
 use Rattle.script_engine.specs.Ends.{RunsTo, beside, end_from}
 use Rattle.script_engine.specs.declared.compiling.Script.{Script}
 pub use Rattle.script_engine.specs.Preludes.{empty_program, prelude_main, prelude_code}
+use Rattle.script_engine.specs.Seen.{limits_of}
 use Rattle.script_engine.specs.Running.{params_of, value_of, words_in, world_at}
 
 -- the codes of a script: its own, and that of the prelude with which it runs
@@ -65,15 +65,15 @@ pub record Counts (codes : ScriptCodes) (limits : Limits) (args : List Value) (w
 -- the end of code with its value, which is read by the type of the result
 abbrev pub end_read : Ty → End (Option Word) → End Value
 end_read of (Result word w) = Result (value_of of word) w
-end_read of (Uncaught id w) = Uncaught id w
-end_read of (Limited limit w) = Limited limit w
+end_read of (Uncaught id place w) = Uncaught id place w
+end_read of (Limited limit place w) = Limited limit place w
 
 -- the members that were reached up to a moment
 abbrev pub reached_in : Next → List ℕ
 reached_in (Goes c) = c.world.reached
 reached_in (Ends (Result word w)) = w.reached
-reached_in (Ends (Uncaught id w)) = w.reached
-reached_in (Ends (Limited limit w)) = w.reached
+reached_in (Ends (Uncaught id place w)) = w.reached
+reached_in (Ends (Limited limit place w)) = w.reached
 reached_in Stuck = []
 
 -- ---- codes of programs

@@ -29,8 +29,8 @@ end_with of (Some value) w = Some (Result (given of value) w)
 -- the end of a function of this result type; nothing where it is More
 abbrev pub end_of : Ty → Out Flow → Option (End Value)
 end_of of (Done flow s e) = end_with of (returned of flow) s.world
-end_of of (Thrown id s e) = Some (Uncaught id s.world)
-end_of of (Over limit w) = Some (Limited limit w)
+end_of of (Thrown id place s e) = Some (Uncaught id place s.world)
+end_of of (Over limit place w) = Some (Limited limit place w)
 end_of of More = None
 
 -- a script's program beside the prelude's

@@ -2,7 +2,7 @@
 use Rattle.std.specs.Prelude.{◌≡◌, ℕ, List, map, Result, Ok, None}
 use Rattle.pl_types.specs.declared.refusal.Refusal.{Refusal}
 use Rattle.object_values.specs.declared.value.Value.{Value}
-use Rattle.object_heap.specs.Fits.{Rules, Every, Fits, ValueFits, AllFit}
+use Rattle.object_heap.specs.Fits.{ValueFits, AllFit}
 use Rattle.typing_soundness.specs.Worlds.{EndFits, count_in}
 use Rattle.static_types.specs.Allow.{AllowList}
 use Rattle.compiled_outcome.specs.World.{World, Limits, End}
@@ -12,17 +12,18 @@ use Rattle.codegen.specs.Programs.{variable_of}
 use Rattle.compiled_outcome.specs.Types.{HaveAll}
 use Rattle.compiled_outcome.specs.Agreeing.{types_in}
 use Rattle.typing_soundness.specs.Laws.{IsContext}
+use Rattle.typing_soundness.specs.ProgramRules.{FitsProgram, rules_of}
 use Rattle.pl_code.specs.declared.code.Code.{Code}
 use Rattle.verified_machine.specs.Faults.{shape_fault}
 use Rattle.object_heap.specs.Store.{Store}
 use Rattle.verified_machine.specs.machine_declared.configuration.Limits as machine
-use Rattle.verified_machine.specs.Seen.{limits_of}
 use Rattle.script_engine.specs.declared.compiling.Script.{Script}
 use Rattle.script_engine.specs.Compiling.{IsScriptOf}
+use Rattle.script_engine.specs.Seen.{limits_of}
 use Rattle.script_engine.specs.Running.{world_at}
 use Rattle.script_engine.specs.Codes.{Counts, IsListed, IsPreludeListed, ScriptCodes, empty_program, prelude_code, script_codes}
 use Rattle.script_engine.specs.Programs.{IsProgramOf}
-use Rattle.script_engine.specs.Ends.{RunsTo}
+use Rattle.script_engine.specs.Ends.{RunsTo, beside}
 use Rattle.script_engine.specs.Typed.{HasVariables, EndIsOf}
 
 -- A text is a program or is refused,
@@ -45,20 +46,20 @@ abbrev pub ProgramsEndOnce : Type 0
 ProgramsEndOnce =
     (p prelude : Program) (limits : Limits) (args : List Value) (w : World) (end other : End Value) → RunsTo p prelude limits args w end → RunsTo p prelude limits args w other → end ≡ other
 
--- .. Where the objects and the arguments fit, so does the end: the objects fit, those of the start are still there, each of its kind and
--- of its class, and what is given or thrown is there.
+-- .. Where the objects fit the two programs, and the arguments fit, so does the end: the objects fit them, those of the start are still
+-- there, each of its kind and of its class, or with an interface that it has taken, and what is given or thrown is there.
 abbrev pub ProgramsFit : Type 0
 ProgramsFit =
-    (rules : Rules) (p prelude : Program) (limits : Limits) (args : List Value) (w : World) (end : End Value) → Fits rules w.store.objects → AllFit (count_in w) args
+    (p prelude : Program) (limits : Limits) (args : List Value) (w : World) (end : End Value) → FitsProgram (beside p prelude) w.store → AllFit (count_in w) args
     → RunsTo p prelude limits args w end
-    → EndFits ValueFits rules w.store.objects end
+    → EndFits ValueFits (rules_of (beside p prelude)) w.store.objects end
 
--- .. And where the objects fit by the rules of a program, and the arguments are of the types of the context's variables, what is given is of
--- the context's result type in the store that is left.
+-- .. And where the objects fit the two, and the arguments are of the types of the context's variables, what is given is of the context's
+-- result type in the store that is left.
 abbrev pub ProgramsAreTyped : Type 0
 ProgramsAreTyped =
-    (rules : Rules) (allow : AllowList) (context : ContextTypes) (text : List ℕ) (p : Program) → IsContext context → IsProgramOf allow context text (Ok p)
-    → (limits : Limits) → limits.ground.allowed ≡ allow → (args : List Value) (w : World) (end : End Value) → rules.typed ≡ Every → Fits rules w.store.objects → HasVariables w.store.objects context args
+    (allow : AllowList) (context : ContextTypes) (text : List ℕ) (p : Program) → IsContext context → IsProgramOf allow context text (Ok p)
+    → (limits : Limits) → limits.ground.allowed ≡ allow → (args : List Value) (w : World) (end : End Value) → FitsProgram (beside p empty_program) w.store → HasVariables w.store.objects context args
     → RunsTo p empty_program limits args w end → EndIsOf context.result end
 
 -- ---- what is listed and counted

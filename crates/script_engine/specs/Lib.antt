@@ -1,7 +1,9 @@
 pub mod Stages
 pub mod Programs
-pub mod Compiling
 pub mod Preludes
+pub mod Executables
+pub mod Seen
+pub mod Compiling
 pub mod Ends
 pub mod Fitting
 pub mod Running
@@ -24,5 +26,4 @@ pub use Rattle.verified_machine.specs.CodeRules
 pub use Rattle.verified_machine.specs.Faults
 pub use Rattle.verified_machine.specs.Machine
 pub use Rattle.verified_machine.specs.Rows
-pub use Rattle.verified_machine.specs.Seen
 pub use Rattle.verified_machine.specs.machine_declared

@@ -25,14 +25,16 @@ use Rattle.verified_machine.specs.machine_declared.configuration.RunEnd as run_e
 use Rattle.verified_machine.specs.machine_declared.configuration.RunEnd.TheVariants as r
 use Rattle.verified_machine.specs.machine_declared.configuration.Limits.{Limits}
 use Rattle.verified_machine.specs.machine_declared.activation.RunOutcome as run_outcome
-use Rattle.verified_machine.specs.Seen.{limits_of, limit_of, codes_alone}
+use Rattle.verified_machine.specs.Code.{codes_in}
 use Rattle.verified_machine.specs.Machine.{start}
 use Rattle.verified_machine.specs.Fits.{kinds_of, main_params}
 use Rattle.verified_machine.specs.Activations.{Activation}
 use Rattle.script_engine.specs.declared.compiling.Script.{Script}
 use Rattle.script_engine.specs.Compiling.{IsScriptOf}
 use Rattle.script_engine.specs.Ends.{RunsTo}
+use Rattle.script_engine.specs.Executables.{executable_of}
 use Rattle.script_engine.specs.Preludes.{empty_program}
+use Rattle.script_engine.specs.Seen.{limits_of, limit_of}
 
 -- ---- arguments
 
@@ -66,14 +68,14 @@ value_of of word = value_by (out-Ty of) word
 -- the end of a run of code, with its value; none where it is stuck
 abbrev pub end_left : Ty → run_end.RunEnd → Option left_end.End
 end_left of (r.Result word) = Some (l.Value (value_of of word))
-end_left of (r.Thrown id) = Some (l.Thrown id)
-end_left of (r.Limit which) = Some (l.Limit which)
+end_left of (r.Thrown id place) = Some (l.Thrown id place)
+end_left of (r.Limit which place) = Some (l.Limit which place)
 end_left of r.Stuck = None
 
 abbrev pub end_seen : left_end.End → World → End Value
 end_seen (l.Value value) w = Result value w
-end_seen (l.Thrown id) w = Uncaught id w
-end_seen (l.Limit which) w = Limited (limit_of which) w
+end_seen (l.Thrown id place) w = Uncaught id place w
+end_seen (l.Limit which place) w = Limited (limit_of which) place w
 
 -- the world that a run left, with so many ticks
 abbrev pub world_left : Outcome → ℕ → World
@@ -82,8 +84,8 @@ world_left o left = record { store = o.heap; ticks = left; reached = o.reached }
 -- an end, and not stuck
 abbrev pub IsEnd : run_end.RunEnd → Type 0
 IsEnd (r.Result word) = Unit {0}
-IsEnd (r.Thrown id) = Unit {0}
-IsEnd (r.Limit which) = Unit {0}
+IsEnd (r.Thrown id place) = Unit {0}
+IsEnd (r.Limit which place) = Unit {0}
 IsEnd r.Stuck = ⊥
 
 -- what a run of code that gives this type leaves, with the value read
@@ -111,14 +113,12 @@ TakesArguments script args = kinds_of (words_in (params_of (slice_get script.exe
 abbrev pub TakesTyped : ContextTypes → Script → Type 0
 TakesTyped context script = (args : List Value) → HaveAll (types_in (map variable_of context.variables)) args → TakesArguments script args
 
--- where a run of a script begins
+-- where a run of a script begins, beside the prelude's code
 abbrev pub begun : Script → Store → List Value → Limits → Activation
 begun script store args limits = record {
-  code = script.executable.code.functions;
+  executable = executable_of script.executable;
   limits = limits;
-  allow = script.executable.allow;
-  frame = script.executable.frame;
-  now = Some (start (codes_alone script.executable.code.functions) (words_in (params_of (slice_get script.executable.code.functions 0)) args) (world_at store limits));
+  now = Some (start (codes_in (executable_of script.executable)) (words_in (params_of (slice_get script.executable.code.functions 0)) args) (world_at store limits));
   steps = 0;
 }
 

@@ -3,7 +3,7 @@
 ghost use Rattle.std.specs.Prelude.{◌≡◌, ◌≤◌, IfOk, None, Result, length, string_bytes};
 ghost use Rattle.pl_code.specs.Listing.{written};
 ghost use Rattle.verified_machine.specs.Faults.{shape_fault};
-ghost use Rattle.verified_machine.specs.Verified.{FrameWords, Refuses};
+ghost use Rattle.verified_machine.specs.Verified.{FrameWords};
 ghost use Rattle.verified_machine.specs.Rows.{HaveRows};
 ghost use Rattle.codegen.specs.declared.error.CodeError.TheVariants as code_errors;
 ghost use Rattle.pl_types.specs.declared.refusal.Fail.TheVariants as fails;
@@ -17,7 +17,9 @@ ghost use Rattle.script_engine.specs.Codes.{prelude_code};
 ghost use Rattle.script_engine.specs.Compiling.{Compiles};
 ghost use Rattle.script_engine.specs.Running.{TakesTyped};
 
-use crate::prelude::prelude_code;
+use crate::executable::ScriptExecutable;
+use crate::prelude::VerifiedPrelude;
+use crate::verifying::verified_code;
 use codegen::{CodeError, generate};
 use compiled_runs::{code_is_well_shaped, programs_run};
 use pl_code::{Code, listing};
@@ -26,11 +28,10 @@ use pl_types::{Fail, Ty};
 use static_types::{Allow, ContextTypes, elaborate};
 use std::alloc::{AllocError, Global};
 use typed_tree::Program;
-use verified_machine::{VerifiedExecutable, VerifyErr, verify};
 
-/// A script that was compiled: verified code with the list of what it may use.
+/// A script that was compiled: verified code with the list of what it may use, beside the prelude's.
 pub struct Script {
-    pub(crate) executable: VerifiedExecutable,
+    pub(crate) executable: ScriptExecutable,
     /// The type of what it gives.
     pub(crate) result: Ty,
 }
@@ -56,8 +57,7 @@ impl Script {
     pub fn prelude_listing(&self, alloc: Global) -> Result<String, AllocError>
         ensures { IfOk result (λ text. string_bytes text ≡ written prelude_code) }
     {
-        let code = prelude_code(alloc)?;
-        listing(alloc, &code)
+        listing(alloc, self.executable.prelude_code())
     }
 
     /// The list by whose classes and members it was compiled.
@@ -133,13 +133,39 @@ pub fn compile(
     ensures rows { IfOk result (λ script. HaveRows script.executable.allow script.executable.code.functions) }
     ensures takes { IfOk result (λ script. TakesTyped context.now script) }
 {
+    let prelude = VerifiedPrelude::new(alloc)?;
+    compile_beside(alloc, text, allow, context, &prelude)
+}
+
+/// The same beside a prelude that is there, which many scripts share.
+///
+/// # Errors
+///
+/// As of [`compile`].
+pub fn compile_beside(
+    alloc: Global,
+    text: &str,
+    allow: &Allow,
+    context: &ContextTypes,
+    prelude: &VerifiedPrelude,
+) -> Result<Script, Fail>
+    requires context { IsContext context.now }
+    ensures exact { Compiles allow.now context.now (IsProgramOf allow.now context.now text.now) result }
+    ensures only { (reading : Result typed.Program Refusal) → IsProgramOf allow.now context.now text.now reading → Compiles allow.now context.now (λ a. a ≡ reading) result }
+    // The verifier finds no fault in the code, and no frame of a run has more words than there is memory for.
+    ensures sound { IfOk result (λ script. shape_fault allow.now script.executable.code ≡ None) }
+    ensures frames { IfOk result (λ script. FrameWords script.executable.frame (record { code = script.executable.code; allow = script.executable.allow })) }
+    // Each of its instructions has a row, and it takes arguments of the types of the context's variables.
+    ensures rows { IfOk result (λ script. HaveRows script.executable.allow script.executable.code.functions) }
+    ensures takes { IfOk result (λ script. TakesTyped context.now script) }
+{
     code_is_well_shaped();
     programs_run();
     let program = program_of(alloc, allow, context, text)?;
     let result = context.result.share(alloc)?;
     match generate(alloc, allow, &program) {
         Ok(code) => {
-            let executable = executable_of(alloc, allow, code)?;
+            let executable = executable_of(alloc, allow, code, prelude)?;
             Ok(Script { executable, result })
         }
         Err(error) => Err(memory_alone(error)),
@@ -158,27 +184,17 @@ fn memory_alone(error: CodeError) -> Fail
     }
 }
 
-/// Code that breaks nowhere, made ready to run. The verifier tells how many words a frame of it has.
-fn executable_of(alloc: Global, allow: &Allow, code: Code) -> Result<VerifiedExecutable, AllocError>
+/// Code that breaks nowhere, made ready to run beside the prelude's.
+fn executable_of(
+    alloc: Global,
+    allow: &Allow,
+    code: Code,
+    prelude: &VerifiedPrelude,
+) -> Result<ScriptExecutable, AllocError>
     requires { shape_fault allow.now code ≡ None }
     ensures code { IfOk result (λ e. (e.code ≡ code) × (e.allow ≡ allow.now)) }
     ensures frames { IfOk result (λ e. FrameWords e.frame (record { code = e.code; allow = e.allow })) }
 {
-    match verify(alloc, allow, code) {
-        Ok(verified) => VerifiedExecutable::new(alloc, verified),
-        Err((_code, error)) => Err(no_fault(error)),
-    }
-}
-
-/// Why code that breaks nowhere is not verified: for want of memory alone.
-fn no_fault(error: VerifyErr) -> AllocError
-    requires { Refuses error None }
-{
-    match error {
-        VerifyErr::NoMemory => AllocError,
-        VerifyErr::BadShape(_) => unreachable!(),
-        VerifyErr::BadTarget(_) => unreachable!(),
-        VerifyErr::BadMember(_) => unreachable!(),
-        VerifyErr::BackJump(_) => unreachable!(),
-    }
+    let verified = verified_code(alloc, allow, code)?;
+    ScriptExecutable::new(alloc, verified, prelude)
 }

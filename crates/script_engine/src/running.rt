@@ -4,12 +4,14 @@ ghost use Rattle.std.specs.List.{list_all};
 ghost use Rattle.std.specs.Prelude.{◌≡◌, ◌≤◌, IfOk, IsOk, List, Some, length, slice_get, true};
 ghost use Rattle.static_types.specs.Allow.{flag};
 ghost use Rattle.compiled_runs.specs.Bounds.{most_steps};
-ghost use Rattle.object_heap.specs.Fits.{AllFit, Every, Fits, Rules};
+ghost use Rattle.object_heap.specs.Fits.{AllFit};
 ghost use Rattle.object_values.specs.declared.object.Object.{Object};
+ghost use Rattle.verified_machine.specs.CodeRules.{FitsCode, rules_of_codes};
 ghost use Rattle.verified_machine.specs.Fitting.{NowFits};
-ghost use Rattle.verified_machine.specs.Seen.{limits_of};
-ghost use Rattle.script_engine.specs.Codes.{Counts, script_codes};
-ghost use Rattle.script_engine.specs.Fitting.{LeavesFit};
+ghost use Rattle.verified_machine.specs.Code.{codes_in};
+ghost use Rattle.script_engine.specs.Seen.{limits_of};
+ghost use Rattle.script_engine.specs.Codes.{Counts, functions_in, script_codes};
+ghost use Rattle.script_engine.specs.Fitting.{KeepsItsProgram, LeavesFit};
 ghost use Rattle.script_engine.specs.Typed.{GivesTyped};
 ghost use Rattle.verified_machine.specs.Rows.{HaveRows};
 ghost use Rattle.verified_machine.specs.Tasks.{ending, SparesMemory};
@@ -81,8 +83,14 @@ fn end_left(of: &Ty, end: verified_machine::RunEnd) -> End
     ensures { end_left of.now end ≡ Some result }
 {
     match &end {
-        verified_machine::RunEnd::Thrown(id) => End::Thrown(*id),
-        verified_machine::RunEnd::Limit(which) => End::Limit(*which),
+        verified_machine::RunEnd::Thrown { id, place } => End::Thrown {
+            id: *id,
+            place: *place,
+        },
+        verified_machine::RunEnd::Limit { limit, place } => End::Limit {
+            limit: *limit,
+            place: *place,
+        },
         verified_machine::RunEnd::Result(_) => End::Value(value_of(of, end.into_word())),
         verified_machine::RunEnd::Stuck => unreachable!(),
     }
@@ -133,8 +141,7 @@ impl Script {
     ) -> Result<VerifiedActivation<'_>, AllocError>
         requires rows { HaveRows self.now.executable.allow self.now.executable.code.functions }
         requires args { TakesArguments self.now args.items }
-        ensures begins { IfOk result (λ a. a.run ≡ begun self.now heap args.items limits) }
-        ensures allow { IfOk result (λ a. a.allow ≡ self.now.executable.allow) }
+        ensures { IfOk result (λ a. a ≡ begun self.now heap args.items limits) }
     {
         let memory = RunMemory::new(heap.alloc());
         self.start_in(memory, heap, args, limits)
@@ -154,11 +161,10 @@ impl Script {
     ) -> Result<VerifiedActivation<'_>, AllocError>
         requires rows { HaveRows self.now.executable.allow self.now.executable.code.functions }
         requires args { TakesArguments self.now args.items }
-        ensures begins { IfOk result (λ a. a.run ≡ begun self.now heap args.items limits) }
-        ensures allow { IfOk result (λ a. a.allow ≡ self.now.executable.allow) }
+        ensures { IfOk result (λ a. a ≡ begun self.now heap args.items limits) }
     {
         let words = words_in(heap.alloc(), params_of(self.executable.code()), args)?;
-        VerifiedActivation::start_in(&self.executable, memory, heap, words, limits)
+        VerifiedActivation::start_in(self.executable.verified(), memory, heap, words, limits)
     }
 
     /// Runs what [`Script::start`] began to its end.
@@ -167,12 +173,12 @@ impl Script {
     ///
     /// Want of memory; none where no instruction of the run takes any.
     pub fn finish(&self, activation: VerifiedActivation<'_>) -> Result<Outcome, AllocError>
-        ensures comes { IfOk result (Comes self.now.result (ending activation.entry.run)) }
+        ensures comes { IfOk result (Comes self.now.result (ending activation.entry)) }
         // Where the start fits, so does what is left.
-        ensures heap { (rules : Rules) (before : List Object) → NowFits rules before activation.entry.run.now → IfOk result (LeavesFit rules before) }
+        ensures heap { (before : List Object) → NowFits (rules_of_codes (codes_in activation.entry.executable)) before activation.entry.now → IfOk result (LeavesFit (rules_of_codes (codes_in activation.entry.executable)) before) }
         // Members of the list alone were reached.
-        ensures reaches { IfOk result (λ o. list_all (flag activation.entry.allow.members) o.reached ≡ true) }
-        ensures memory { SparesMemory activation.entry.run → IsOk result }
+        ensures reaches { IfOk result (λ o. list_all (flag activation.entry.executable.script.allow.members) o.reached ≡ true) }
+        ensures memory { SparesMemory activation.entry → IsOk result }
     {
         let ScriptRun {
             outcome,
@@ -191,10 +197,10 @@ impl Script {
         &self,
         activation: VerifiedActivation<'_>,
     ) -> Result<ScriptRun, AllocError>
-        ensures comes { IfOk result (λ ran. Comes self.now.result (ending activation.entry.run) ran.outcome) }
-        ensures heap { (rules : Rules) (before : List Object) → NowFits rules before activation.entry.run.now → IfOk result (λ ran. LeavesFit rules before ran.outcome) }
-        ensures reaches { IfOk result (λ ran. list_all (flag activation.entry.allow.members) ran.outcome.reached ≡ true) }
-        ensures memory { SparesMemory activation.entry.run → IsOk result }
+        ensures comes { IfOk result (λ ran. Comes self.now.result (ending activation.entry) ran.outcome) }
+        ensures heap { (before : List Object) → NowFits (rules_of_codes (codes_in activation.entry.executable)) before activation.entry.now → IfOk result (λ ran. LeavesFit (rules_of_codes (codes_in activation.entry.executable)) before ran.outcome) }
+        ensures reaches { IfOk result (λ ran. list_all (flag activation.entry.executable.script.allow.members) ran.outcome.reached ≡ true) }
+        ensures memory { SparesMemory activation.entry → IsOk result }
     {
         let finished = activation.finish_with_memory()?;
         let FinishedRun { outcome, memory } = finished;
@@ -216,16 +222,17 @@ impl Script {
         requires rows { HaveRows self.now.executable.allow self.now.executable.code.functions }
         requires args { TakesArguments self.now args.items }
         ensures program { IfOk result (RunsAsItsProgram self.now heap args.items limits) }
-        // Where the heap and the arguments fit, so do the heap and the end that are left, by the same rules: those of the code, and those of
-        // the program. A number that is thrown is an exception's, and each object is still there, of its kind and of its class.
-        ensures heap { (rules : Rules) → Fits rules heap.objects → AllFit (length heap.objects) args.items → IfOk result (LeavesFit rules heap.objects) }
-        // Where the heap fits by the rules of a program and each argument is of its variable's type in it, the value that is given is of the result's type in what is
-        // left.
-        ensures typed { (rules : Rules) → rules.typed ≡ Every → Fits rules heap.objects → IfOk result (GivesTyped self.now heap args.items) }
+        // Where the heap fits the codes of both texts, and the arguments fit, so do the heap and the end that are left. A number that is thrown is
+        // an exception's, and each object is still there, of its kind and of its class, or with an interface that it has taken.
+        ensures heap { FitsCode (functions_in (script_codes self.now)) heap → AllFit (length heap.objects) args.items → IfOk result (LeavesFit (rules_of_codes (functions_in (script_codes self.now))) heap.objects) }
+        // The same of the heap that fits the script's program beside the prelude's.
+        ensures keeps { IfOk result (KeepsItsProgram self.now heap args.items) }
+        // And where each argument is of its variable's type in such a heap, the value that is given is of the result's type in what is left.
+        ensures typed { IfOk result (GivesTyped self.now heap args.items) }
         // The instructions of the script's code, beside that of the prelude, are counted up to its end, as far as 64 bits count them.
         ensures counts { IfOk result (λ o. Counts (script_codes self.now) (limits_of limits self.now.executable.allow) args.items (world_at heap limits) o.steps) }
         // There are no more of them than ticks, depth and the longest function allow.
-        ensures bound { IfOk result (λ o. o.steps ≤ most_steps self.now.executable.code.functions (limits_of limits self.now.executable.allow) limits.ticks) }
+        ensures bound { IfOk result (λ o. o.steps ≤ most_steps (functions_in (script_codes self.now)) (limits_of limits self.now.executable.allow) limits.ticks) }
         // Members of the list alone were reached.
         ensures reaches { IfOk result (λ o. list_all (flag self.now.executable.allow.members) o.reached ≡ true) }
     {
@@ -254,10 +261,11 @@ impl Script {
         requires args { TakesArguments self.now args.items }
         ensures program { IfOk result (λ ran. RunsAsItsProgram self.now heap args.items limits ran.outcome) }
         // As of [`Script::run`].
-        ensures heap { (rules : Rules) → Fits rules heap.objects → AllFit (length heap.objects) args.items → IfOk result (λ ran. LeavesFit rules heap.objects ran.outcome) }
-        ensures typed { (rules : Rules) → rules.typed ≡ Every → Fits rules heap.objects → IfOk result (λ ran. GivesTyped self.now heap args.items ran.outcome) }
+        ensures heap { FitsCode (functions_in (script_codes self.now)) heap → AllFit (length heap.objects) args.items → IfOk result (λ ran. LeavesFit (rules_of_codes (functions_in (script_codes self.now))) heap.objects ran.outcome) }
+        ensures keeps { IfOk result (λ ran. KeepsItsProgram self.now heap args.items ran.outcome) }
+        ensures typed { IfOk result (λ ran. GivesTyped self.now heap args.items ran.outcome) }
         ensures counts { IfOk result (λ ran. Counts (script_codes self.now) (limits_of limits self.now.executable.allow) args.items (world_at heap limits) ran.outcome.steps) }
-        ensures bound { IfOk result (λ ran. ran.outcome.steps ≤ most_steps self.now.executable.code.functions (limits_of limits self.now.executable.allow) limits.ticks) }
+        ensures bound { IfOk result (λ ran. ran.outcome.steps ≤ most_steps (functions_in (script_codes self.now)) (limits_of limits self.now.executable.allow) limits.ticks) }
         ensures reaches { IfOk result (λ ran. list_all (flag self.now.executable.allow.members) ran.outcome.reached ≡ true) }
     {
         programs_end();

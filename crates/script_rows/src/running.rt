@@ -157,8 +157,8 @@ fn end_text(outcome: &Outcome) -> Result<String, AllocError> {
     let alloc = outcome.heap.alloc();
     match &outcome.end {
         End::Value(value) => value_text(alloc, value),
-        End::Thrown(id) => thrown_text(&outcome.heap, *id),
-        End::Limit(which) => String::from_str(alloc, limit_text(*which)),
+        End::Thrown { id, .. } => thrown_text(&outcome.heap, *id),
+        End::Limit { limit, .. } => String::from_str(alloc, limit_text(*limit)),
     }
 }
 

@@ -21,7 +21,8 @@ use Rattle.json_bridge.specs.Laws.{BindFits}
 use Rattle.search_ctx.specs.declared.values.FieldValues.{FieldValues}
 use Rattle.search_ctx.specs.declared.values.FieldValues.TheVariants as f
 use Rattle.search_ctx.specs.Laws.{LinesFit, PlacingFits, StartFits}
-use Rattle.search_ctx.specs.Lines.{Search, or_field, started, score_args, number_outside, search_of}
+use Rattle.json_bridge.specs.Starts.{or_field, number_outside}
+use Rattle.search_ctx.specs.Lines.{Search, started, score_args, search_of}
 use Rattle.search_ctx.specs.Placing.{doc_placed, lists_placed, mapped, script_values, values_placed}
 
 value_more : (n m : ℕ) → n ≤ m → (value : Value) → ValueFits n value → ValueFits m value

@@ -21,7 +21,8 @@ use Rattle.search_ctx.specs.declared.values.FieldValues.{FieldValues}
 use Rattle.search_ctx.specs.declared.line.SearchKind.{SearchKind}
 use Rattle.search_ctx.specs.declared.line.SearchKind.TheVariants as k
 use Rattle.search_ctx.specs.DocValues.{doc_of_members}
-use Rattle.search_ctx.specs.Lines.{Search, or_field, started, score_args, score_of, score_key, number_outside, plain_search, scored_search, search_in, search_of, without}
+use Rattle.json_bridge.specs.Starts.{or_field, number_outside}
+use Rattle.search_ctx.specs.Lines.{Search, started, score_args, score_of, score_key, plain_search, scored_search, search_in, search_of, without}
 use Rattle.search_ctx.specs.Placing.{doc_placed, lists_placed, script_values, values_placed}
 use Rattle.search_ctx.specs.Typed.{LinesTyped, StartTyped, argument_types}
 use Rattle.search_ctx.proofs.Fitting.{map_class}

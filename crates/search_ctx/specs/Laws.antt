@@ -13,7 +13,8 @@ use Rattle.search_ctx.specs.declared.values.FieldValues.{FieldValues}
 use Rattle.search_ctx.specs.declared.line.SearchKind.{SearchKind}
 use Rattle.search_ctx.specs.Fields.{HasDistinctNames, with_fields}
 use Rattle.search_ctx.specs.Placing.{doc_placed}
-use Rattle.search_ctx.specs.Lines.{Start, Fault, bound_document}
+use Rattle.json_bridge.specs.Starts.{Start, Fault}
+use Rattle.search_ctx.specs.Lines.{bound_document}
 
 abbrev pub PlacingFits : Type 0
 PlacingFits = (rules : Rules) (objects : List Object) (fields : List (List ℕ × FieldKind)) (doc : List FieldValues) → Fits rules objects

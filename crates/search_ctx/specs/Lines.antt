@@ -1,34 +1,20 @@
 -- What a line of input is bound to: the store and the arguments with which a run over it starts, or what is wrong with it.
-use Rattle.std.specs.Prelude.{◌≡◌, ℕ, ℤ, int_le, pos, true, ◌&&◌, List, [], ◌∷◌, Option, Some, None, Result, Ok, Err, codes, option_map, option_and_then, if◌then◌else◌}
+use Rattle.std.specs.Prelude.{ℕ, ℤ, int_le, pos, true, ◌&&◌, List, [], ◌∷◌, Option, Some, None, Result, Err, codes, option_map, option_and_then, if◌then◌else◌}
 use Rattle.std.specs.Str.{bytes_eq}
 use Rattle.serde_json.specs.Data.{Data, Members, no_members, member}
 use Rattle.serde_json.specs.Find.{as_i64, as_number, as_object, get_member}
 use Rattle.object_values.specs.declared.value.Value.{Value}
 use Rattle.object_values.specs.declared.value.Value.TheVariants as v
-use Rattle.object_heap.specs.Store.{Store}
 use Rattle.job_file.specs.declared.mapping.FieldKind.{FieldKind}
 use Rattle.job_file.specs.Values.{has_whole_numbers}
 use Rattle.json_bridge.specs.Binding.{Bound, bound}
+use Rattle.json_bridge.specs.Starts.{Start, Fault, syntax, number_outside, or_field}
 use Rattle.search_ctx.specs.declared.values.FieldValues.{FieldValues}
 use Rattle.search_ctx.specs.declared.line.SearchKind.{SearchKind}
 use Rattle.search_ctx.specs.declared.line.SearchKind.TheVariants as k
-use Rattle.search_ctx.specs.declared.line.Bound.{Bound as BoundLine}
 use Rattle.search_ctx.specs.declared.line.Search.{Search as FoundSearch}
-use Rattle.search_ctx.specs.declared.error.BindErr.{BindErr}
-use Rattle.search_ctx.specs.declared.error.BindErr.TheVariants as e
 use Rattle.search_ctx.specs.DocValues.{doc_of_members}
 use Rattle.search_ctx.specs.Placing.{doc_placed}
-
--- what is wrong with a line: it is no JSON, some number is none of 64 bits with a sign, or it breaks a rule of the context
-pub data Fault : Type 0 where
-  syntax : Fault
-  number_outside : Fault
-  field : Fault
-
--- with what a run starts
-pub record Start : Type 0 where
-  pub store : Store
-  pub args : List Value
 
 -- ---- what a context takes of a document
 
@@ -94,10 +80,6 @@ start_after params fields room wanted = start_at (doc_placed params.objects fiel
 abbrev pub started : List (List ℕ × FieldKind) → Data → ℕ → Search → Start
 started fields params room wanted = start_after (bound true [] params) fields room wanted
 
-abbrev pub or_field : {A : Type 0} → Option A → Result A Fault
-or_field None = Err field
-or_field (Some x) = Ok x
-
 -- The start for a document, or what is wrong: a number of the document or of `params` that is none of 64 bits with a sign, and
 -- then a rule of the context.
 abbrev pub bound_document : SearchKind → List (List ℕ × FieldKind) → Data → ℕ → Data → Result Start Fault
@@ -115,14 +97,3 @@ bound_line kind fields params room (Some d) = bound_document kind fields params 
 
 abbrev pub search_view : FoundSearch → Search
 search_view wanted = record { doc = wanted.doc; score = wanted.score }
-
-abbrev pub start_view : BoundLine → Start
-start_view line = record { store = line.heap; args = line.args }
-
--- The answer is what the definition says. Want of memory is free.
-abbrev pub Answered : Result BoundLine BindErr → Result Start Fault → Type 0
-Answered (Ok line) meaning = meaning ≡ Ok (start_view line)
-Answered (Err e.Syntax) meaning = meaning ≡ Err syntax
-Answered (Err e.Number) meaning = meaning ≡ Err number_outside
-Answered (Err e.Field) meaning = meaning ≡ Err field
-Answered (Err e.NoMemory) meaning = Unit {0}

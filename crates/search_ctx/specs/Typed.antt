@@ -14,7 +14,8 @@ use Rattle.job_file.specs.Jobs.{JobData, Fault as JobFault, job_of_read}
 use Rattle.job_file.specs.Keys.{belongs}
 use Rattle.search_ctx.specs.declared.line.SearchKind.{SearchKind}
 use Rattle.search_ctx.specs.declared.line.SearchKind.TheVariants as k
-use Rattle.search_ctx.specs.Lines.{Start, Fault, bound_document}
+use Rattle.json_bridge.specs.Starts.{Start, Fault}
+use Rattle.search_ctx.specs.Lines.{bound_document}
 
 -- the types of what a context over documents binds: the params, the document, and in the context score its score
 abbrev pub argument_types : SearchKind → List Ty

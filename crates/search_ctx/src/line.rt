@@ -6,16 +6,17 @@ ghost use Rattle.serde_json.specs.Read.{read};
 ghost use Rattle.serde_json.specs.View.{view};
 ghost use Rattle.object_values.specs.Seeds.{seed_with};
 ghost use Rattle.search_ctx.specs.declared.error.DocErr.TheVariants as doc_err;
-ghost use Rattle.search_ctx.specs.Lines.{Answered, bound_document, bound_line, score_args, score_in, score_of, search_of, search_view, syntax};
+ghost use Rattle.json_bridge.specs.Starts.{Answered, syntax};
+ghost use Rattle.search_ctx.specs.Lines.{bound_document, bound_line, score_args, score_in, score_of, search_of, search_view};
 ghost use Rattle.search_ctx.specs.declared.line.SearchKind.TheVariants as k;
 
 use crate::doc::FieldDoc;
-use crate::error::{BindErr, DocErr};
+use crate::error::DocErr;
 use crate::fields::Fields;
 use crate::placing::place_doc;
 use crate::walk::SCORE_KEY;
 use job_file::has_whole_numbers;
-use json_bridge::bind;
+use json_bridge::{BindErr, Bound, bind};
 use json_reading::{Scratch, read_json};
 use object_heap::Heap;
 use object_values::{Elements, Seed, Value};
@@ -31,34 +32,6 @@ pub enum SearchKind {
     Score,
     /// A value of a document: with `params` and `doc`.
     Field,
-}
-
-/// With what a run over a line starts.
-pub struct Bound {
-    /// The store, with all the room that a run has.
-    pub heap: Heap,
-    /// The values of the context's variables, in their order.
-    pub args: Elements<Value>,
-}
-
-impl Drop for Bound {
-    fn drop(self) {
-        let Bound {
-            heap: _heap,
-            args: _args,
-        } = self;
-    }
-}
-
-impl Bound {
-    /// The store and the values of the variables.
-    pub fn into_parts(self) -> (Heap, Elements<Value>)
-        ensures heap { result.0 ≡ self.heap }
-        ensures args { result.1 ≡ self.args }
-    {
-        let Bound { heap, args } = self;
-        (heap, args)
-    }
 }
 
 /// The doc values of a document, and its score where the context has one.

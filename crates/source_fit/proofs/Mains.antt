@@ -11,5 +11,5 @@ use Rattle.source_fit.proofs.Values.{EntryFits, entry_fits}
 
 pub mains_fit : MainsFit
 mains_fit funs limits bound main is w arguments f g e entered =
-    (meanings_fit (rules_of funs) w.store.objects funs limits bound).stmts main.body (record { text = Script; depth = 0 }) (record { world = w; turns = 0 }) e
+    (meanings_fit w.store.objects funs limits bound).stmts main.body (record { text = Script; depth = 0 }) (record { world = w; turns = 0 }) e
     (beginnings_fit (rules_of funs) w f, subst (EntryFits (count_in w)) entered (entry_fits (count_in w) main.params arguments [] g tt))

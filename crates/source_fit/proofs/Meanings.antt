@@ -2,8 +2,8 @@
 use Rattle.std.proofs.Common.{◌≡◌, ℕ, zero, suc, ◌≤◌, Bool, true, false, List, [], ◌∷◌, ◌++◌, Option, Some, None, sym, subst, arith}
 use Rattle.std.specs.Prelude.{slice_get, length, if◌then◌else◌}
 use Rattle.pl_types.specs.declared.ty.Ty.{Ty}
-use Rattle.allowlist.specs.Allow.{flag}
-use Rattle.allowlist.specs.Index.{member_at}
+use Rattle.allowlist.specs.Allow.{AllowList, flag}
+use Rattle.allowlist.specs.Index.{member_in}
 use Rattle.allowlist.specs.declared.member.MemberType.{MemberType}
 use Rattle.object_values.specs.declared.object.Object.{Object}
 use Rattle.object_values.specs.declared.object.Owner.{Owner}
@@ -28,7 +28,7 @@ use Rattle.number_ops.specs.Relations.{thrown}
 use Rattle.run_fit.specs.ContainerCallsLaws.{StillThere}
 use Rattle.run_fit.specs.Members.{does}
 use Rattle.run_state.specs.Calls.{suits_member, wrong_class}
-use Rattle.run_state.specs.World.{World, Limits, Outcome, Given, Raised, Full, acts_in, Counted, Counts, Passes, allowed_in, has_loop_limit, take_turn, enter, pay_member}
+use Rattle.run_state.specs.World.{World, Limits, Arose, Outcome, Given, Raised, Full, acts_in, Counted, Counts, Passes, allowed_in, has_loop_limit, take_turn, enter, pay_member}
 use Rattle.run_fit.specs.Laws.{DoneFits}
 use Rattle.run_fit.specs.Worlds.{WorldFits, count_in, OutcomeFits}
 use Rattle.run_fit.proofs.Containers.{AccessFits, index_read_fits, index_written_fits, name_read_fits, name_written_fits, method_called_fits}
@@ -42,6 +42,7 @@ use Rattle.source_meaning.specs.Members.{Sending, Unsent, OnNull, Sends, Reads, 
 use Rattle.source_meaning.specs.Meaning.{State, Env, Place, Out, Done, Thrown, Over, More, Flow, Normal, Broke, Continued, Returned, bind, leave, lookup, entry, found, effect, operated, choose, goes_next, goes_again, is_of_class, returned, back, cast_each, casts_due, Meaning, entered, called, acted, paid, tested, member_called, member_applied, of_member, accessed, method_applied, name_applied, name_put, index_applied, index_put, applied, logic, changed, modified, written, modified_at, given_by, expr_of, exprs_of, value_if, turned, done_turn, caught, handled, stmt_of, value_or, stmts_of, layer, meaning}
 use Rattle.source_fit.specs.Laws.{MeaningFits, MeaningsFit}
 use Rattle.source_fit.specs.Outs.{EnvFits, StateFits, FlowFits, OutFits}
+use Rattle.source_fit.specs.ProgramRules.{rules_of}
 use Rattle.run_fit.proofs.Values.{MadeFits}
 use Rattle.source_fit.proofs.Values.{env_grows, older_fits, lookup_fits, assigned_fits, EntryFits, entry_fits, constant_fits, default_fits, returned_fits, given_by_fits, behind_fits, passed_result_fits, SendingFits, sent_fits, OperatedFits, operates_fit, operates_to_fit, cast_fits}
 
@@ -61,8 +62,8 @@ module _ (rules : Rules) (before : List Object) where
 
   lower_by : {A : Type 0} (good : ℕ → A → Type 0) (n m : ℕ) (o : Out A) → n ≤ m → OutFits good rules before m o → OutFits good rules before n o
   lower_by good n m (Done a s e) h x = (x.0, omega (arith, h, x.1), x.2)
-  lower_by good n m (Thrown id s e) h x = (x.0, omega (arith, h, x.1), x.2)
-  lower_by good n m (Over limit w) h x = x
+  lower_by good n m (Thrown id place s e) h x = (x.0, omega (arith, h, x.1), x.2)
+  lower_by good n m (Over limit place w) h x = x
   lower_by good n m More h x = tt
 
   lower : {A : Type 0} {good : ℕ → A → Type 0} {n m : ℕ} {o : Out A} → n ≤ m → Keeps good m o → Keeps good n o
@@ -71,8 +72,8 @@ module _ (rules : Rules) (before : List Object) where
   binds : {A B : Type 0} (good : ℕ → A → Type 0) (also : ℕ → B → Type 0) (n : ℕ) (o : Out A) (next : A → State → Env → Out B) → OutFits good rules before n o
       → ((a : A) (s : State) (e : Env) → Here s e → n ≤ count_in s.world → good (count_in s.world) a → Keeps also (count_in s.world) (next a s e)) → OutFits also rules before n (bind o next)
   binds good also n (Done a s e) next x f = lower_by also n (count_in s.world) (next a s e) x.1 (f a s e x.0 x.1 x.2).by
-  binds good also n (Thrown id s e) next x f = x
-  binds good also n (Over limit w) next x f = x
+  binds good also n (Thrown id place s e) next x f = x
+  binds good also n (Over limit place w) next x f = x
   binds good also n More next x f = tt
 
   then' : {A B : Type 0} {good : ℕ → A → Type 0} {also : ℕ → B → Type 0} {n : ℕ} {o : Out A} {next : A → State → Env → Out B} → Keeps good n o
@@ -81,8 +82,8 @@ module _ (rules : Rules) (before : List Object) where
 
   leaves : {A : Type 0} (good : ℕ → A → Type 0) (n : ℕ) (o : Out A) → OutFits good rules before n o → OutFits good rules before n (leave o)
   leaves good n (Done a s e) x = ((x.0.0, older_fits (count_in s.world) e x.0.1), x.1, x.2)
-  leaves good n (Thrown id s e) x = ((x.0.0, older_fits (count_in s.world) e x.0.1), x.1, x.2)
-  leaves good n (Over limit w) x = x
+  leaves good n (Thrown id place s e) x = ((x.0.0, older_fits (count_in s.world) e x.0.1), x.1, x.2)
+  leaves good n (Over limit place w) x = x
   leaves good n More x = tt
 
   leaving : {A : Type 0} {good : ℕ → A → Type 0} {n : ℕ} {o : Out A} → Keeps good n o → Keeps good n (leave o)
@@ -177,8 +178,8 @@ module _ (rules : Rules) (before : List Object) where
     backs of (Done flow s e') n turns e h x =
         lower_by ValueFits n (count_in s.world) (found (returned of flow) (record { world = s.world; turns = turns }) e) x.1
         (found_fits (returned of flow) (record { world = s.world; turns = turns }) e (x.0.0, env_grows n (count_in s.world) x.1 e h) (returned_fits (count_in s.world) of flow x.2)).by
-    backs of (Thrown id s e') n turns e h x = ((x.0.0, env_grows n (count_in s.world) x.1 e h), x.1, x.2)
-    backs of (Over limit w) n turns e h x = x
+    backs of (Thrown id place s e') n turns e h x = ((x.0.0, env_grows n (count_in s.world) x.1 e h), x.1, x.2)
+    backs of (Over limit place w) n turns e h x = x
     backs of More n turns e h x = tt
 
     enters : (c : Counted) (text : Owner) (due : List Ty) (d : Place) (s : State) (e : Env) (of : Ty) (body : Stmts) (o : Option Env) → Here s e → EntryFits (count_in s.world) o → SameStore s.world c
@@ -223,13 +224,13 @@ module _ (rules : Rules) (before : List Object) where
     member_calls (Sends arguments) number t d s e h f = tests (suits_member s.world.store.objects t arguments) number arguments d s e h f
     member_calls Reads number t d s e h f = acts (does limits.ground.host number [] s.world.store) s e h (members_fit rules before s.world limits.ground.host number [] h.0 tt)
 
-    allowed_members : (allowed : Bool) (number : ℕ) (values : List Value) (d : Place) (s : State) (e : Env) → Here s e → AllFit (count_in s.world) values
-        → Keeps ValueFits (count_in s.world) (member_applied funs limits m allowed number values d s e)
-    allowed_members false number values d s e h f = record { by = tt }
-    allowed_members true number values d s e h f = member_calls (sent (member_at number) values) number (member_at number) d s e h (sent_fits (count_in s.world) (member_at number) values f)
+    allowed_members : (allow : AllowList) (allowed : Bool) (number : ℕ) (values : List Value) (d : Place) (s : State) (e : Env) → Here s e → AllFit (count_in s.world) values
+        → Keeps ValueFits (count_in s.world) (member_applied funs limits m allow allowed number values d s e)
+    allowed_members allow false number values d s e h f = record { by = tt }
+    allowed_members allow true number values d s e h f = member_calls (sent (member_in allow number) values) number (member_in allow number) d s e h (sent_fits (count_in s.world) (member_in allow number) values f)
 
     members : (x : Member) (values : List Value) (d : Place) (s : State) (e : Env) → Here s e → AllFit (count_in s.world) values → Keeps ValueFits (count_in s.world) (of_member funs limits m x values d s e)
-    members x values d s e h f = allowed_members (flag (allowed_in limits d.text).members x.number) x.number values d s e h f
+    members x values d s e h f = allowed_members (allowed_in limits d.text) (flag (allowed_in limits d.text).members x.number) x.number values d s e h f
 
     -- ---- what is found for a receiver when the script runs
 
@@ -391,16 +392,16 @@ module _ (rules : Rules) (before : List Object) where
         (then' {good = FlowFits} (stmts_ih body d (record { world = w; turns = suc s.turns }) e here) (λ flow s e h n f.
         again flow s e h f (then' {good = ValueFits} (value_keeps test (v.Bool true) d s e h tt) (λ value s e h n f. chosen value (stmt_ih (DoWhile body test) d s e h) (done h tt)))))
 
-    catches_keep : (t : Catches) (d : Place) (id : ℕ) (s : State) (e : Env) → Here s e → ThrownFits s.world.store.objects id → Keeps FlowFits (count_in s.world) (caught funs limits m d t id s e)
-    catches_keep NoCatch d id s e h f = record { by = (h, omega arith, f) }
-    catches_keep (Catch class x body rest) d id s e h f =
-        either (is_of_class class (slice_get s.world.store.objects id)) (catches_keep rest d id s e h f)
+    catches_keep : (t : Catches) (d : Place) (id : ℕ) (place : Arose) (s : State) (e : Env) → Here s e → ThrownFits s.world.store.objects id → Keeps FlowFits (count_in s.world) (caught funs limits m d t id place s e)
+    catches_keep NoCatch d id place s e h f = record { by = (h, omega arith, f) }
+    catches_keep (Catch class x body rest) d id place s e h f =
+        either (is_of_class class (slice_get s.world.store.objects id)) (catches_keep rest d id place s e h f)
         (leaving (stmts_ih body d s (record { name = x; value = v.Ref id } ∷ e) (h.0, (f.0, h.1))))
 
     handles : (t : Catches) (d : Place) (n : ℕ) (o : Out Flow) → OutFits FlowFits rules before n o → OutFits FlowFits rules before n (handled funs limits m d t o)
     handles t d n (Done flow s e) x = x
-    handles t d n (Thrown id s e) x = lower_by FlowFits n (count_in s.world) (caught funs limits m d t id s e) x.1 (catches_keep t d id s e x.0 x.2).by
-    handles t d n (Over limit w) x = x
+    handles t d n (Thrown id place s e) x = lower_by FlowFits n (count_in s.world) (caught funs limits m d t id place s e) x.1 (catches_keep t d id place s e x.0 x.2).by
+    handles t d n (Over limit place w) x = x
     handles t d n More x = tt
 
     stmt_keeps : (t : Stmt) (d : Place) (s : State) (e : Env) → Here s e → Keeps FlowFits (count_in s.world) (stmt_of funs limits m d s e t)
@@ -439,5 +440,5 @@ module _ (rules : Rules) (before : List Object) where
     }
 
 pub meanings_fit : MeaningsFit
-meanings_fit rules before funs limits zero = record { expr = λ t d s e h. tt; exprs = λ t d s e h. tt; stmt = λ t d s e h. tt; stmts = λ t d s e h. tt }
-meanings_fit rules before funs limits (suc n) = deeper rules before funs limits (meaning funs limits n) (meanings_fit rules before funs limits n)
+meanings_fit before funs limits zero = record { expr = λ t d s e h. tt; exprs = λ t d s e h. tt; stmt = λ t d s e h. tt; stmts = λ t d s e h. tt }
+meanings_fit before funs limits (suc n) = deeper (rules_of funs) before funs limits (meaning funs limits n) (meanings_fit before funs limits n)

@@ -1,5 +1,4 @@
--- The meaning of a program fits. An array takes values of its element type alone, whatever writes into it, and no construct makes a
--- function value; so this is said of all rules: those of a program and those of a code.
+-- The meaning of a program fits by the rules of the program. An array takes values of its element type alone, whatever writes into it.
 use Rattle.std.specs.Prelude.{◌≡◌, ℕ, List, [], Some, slice_get}
 use Rattle.object_values.specs.declared.object.Object.{Object}
 use Rattle.object_values.specs.declared.object.Owner.TheVariants.{Script}
@@ -19,7 +18,7 @@ pub record MeaningFits (rules : Rules) (before : List Object) (m : Meaning) : Ty
   pub stmts : (t : Stmts) (d : Place) (s : State) (e : Env) → StateFits rules before s e → OutFits FlowFits rules before (count_in s.world) (m.stmts d s e t)
 
 abbrev pub MeaningsFit : Type 0
-MeaningsFit = (rules : Rules) (before : List Object) (funs : Programs) (limits : Limits) (bound : ℕ) → MeaningFits rules before (meaning funs limits bound)
+MeaningsFit = (before : List Object) (funs : Programs) (limits : Limits) (bound : ℕ) → MeaningFits (rules_of funs) before (meaning funs limits bound)
 
 -- So a main script, on arguments that are there in a store that fits its program, leaves a store that fits the program.
 abbrev pub MainsFit : Type 0

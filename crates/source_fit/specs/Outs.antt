@@ -23,6 +23,6 @@ FlowFits count (Returned value) = ValueFits count value
 -- What it comes to, where so many objects were there: none of them is gone, and a value or an exception of the world behind it.
 abbrev pub OutFits : {A : Type 0} → (ℕ → A → Type 0) → Rules → List Object → ℕ → Out A → Type 0
 OutFits good rules before count (Done a s e) = StateFits rules before s e × (count ≤ count_in s.world) × good (count_in s.world) a
-OutFits good rules before count (Thrown id s e) = StateFits rules before s e × (count ≤ count_in s.world) × ThrownFits s.world.store.objects id
-OutFits good rules before count (Over limit w) = WorldFits rules before w
+OutFits good rules before count (Thrown id place s e) = StateFits rules before s e × (count ≤ count_in s.world) × ThrownFits s.world.store.objects id
+OutFits good rules before count (Over limit place w) = WorldFits rules before w
 OutFits good rules before count More = Unit {0}

@@ -15,7 +15,7 @@ use Rattle.typed_tree.specs.declared.operation.Target.{Target}
 use Rattle.typed_tree.specs.declared.operation.Target.TheVariants as target
 use Rattle.typed_tree.specs.declared.operation.Change.{Change}
 use Rattle.typed_tree.specs.declared.operation.Gives.{Gives}
-use Rattle.run_state.specs.World.{Limits, Counted, Counts, Passes, has_loop_limit, take_turn, enter}
+use Rattle.run_state.specs.World.{Limits, Arose, Counted, Counts, Passes, has_loop_limit, take_turn, enter}
 use Rattle.source_meaning.specs.Tree.{Name, Expr, Literal, Quoted, Local, Apply, Guarded, Logic, Conditional, Elvis, Assign, Modify, Lambda, Reference, NewReference, Exprs, None', One, Maybe, Missing, Given as Present, Stmt, Do, If, While, DoWhile, Try, Block, Break, Continue, Return, Throw, Stmts, Finish, Then, Declare, Catches, NoCatch, Catch, Fun, Programs, functions_in}
 use Rattle.source_meaning.specs.Operating.{casts}
 use Rattle.source_meaning.specs.Meaning.{State, Env, Place, Out, Done, Thrown, Over, More, Flow, Normal, Broke, Continued, Returned, bind, leave, entry, found, operated, choose, goes_next, goes_again, is_of_class, back, lookup, given_by, Meaning, entered, called, of_member, applied, logic, changed, modified, written, modified_at, expr_of, exprs_of, value_if, turned, done_turn, caught, handled, stmt_of, value_or, stmts_of, layer, meaning}
@@ -27,8 +27,8 @@ record Up {A : Type 0} (o other : Out A) : Type 0 where
 
 same_stays : {A : Type 0} (o : Out A) → Stays o o
 same_stays (Done a s e) = refl
-same_stays (Thrown id s e) = refl
-same_stays (Over limit w) = refl
+same_stays (Thrown id place s e) = refl
+same_stays (Over limit place w) = refl
 same_stays More = tt
 
 same : {A : Type 0} {o : Out A} → Up o o
@@ -36,8 +36,8 @@ same {o = o} = record { by = same_stays o }
 
 binds : {A B : Type 0} (o other : Out A) (k k' : A → State → Env → Out B) → Stays o other → ((a : A) (s : State) (e : Env) → Up (k a s e) (k' a s e)) → Stays (bind o k) (bind other k')
 binds (Done a s e) other k k' x f = subst (λ o. Stays (k a s e) (bind o k')) (sym x) (f a s e).by
-binds (Thrown id s e) other k k' x f = ap (λ o. bind o k') x
-binds (Over limit w) other k k' x f = ap (λ o. bind o k') x
+binds (Thrown id place s e) other k k' x f = ap (λ o. bind o k') x
+binds (Over limit place w) other k k' x f = ap (λ o. bind o k') x
 binds More other k k' x f = tt
 
 then' : {A B : Type 0} {o other : Out A} {k k' : A → State → Env → Out B} → Up o other → ((a : A) (s : State) (e : Env) → Up (k a s e) (k' a s e)) → Up (bind o k) (bind other k')
@@ -45,8 +45,8 @@ then' {o = o} {other = other} {k = k} {k' = k'} x f = record { by = binds o othe
 
 leaves : {A : Type 0} (o other : Out A) → Stays o other → Stays (leave o) (leave other)
 leaves (Done a s e) other x = ap leave x
-leaves (Thrown id s e) other x = ap leave x
-leaves (Over limit w) other x = ap leave x
+leaves (Thrown id place s e) other x = ap leave x
+leaves (Over limit place w) other x = ap leave x
 leaves More other x = tt
 
 leaving : {A : Type 0} {o other : Out A} → Up o other → Up (leave o) (leave other)
@@ -57,8 +57,8 @@ backs of (Done Normal s' e') other turns e x = ap (λ o. back of o turns e) x
 backs of (Done Broke s' e') other turns e x = tt
 backs of (Done Continued s' e') other turns e x = tt
 backs of (Done (Returned value) s' e') other turns e x = ap (λ o. back of o turns e) x
-backs of (Thrown id s' e') other turns e x = ap (λ o. back of o turns e) x
-backs of (Over limit w) other turns e x = ap (λ o. back of o turns e) x
+backs of (Thrown id place s' e') other turns e x = ap (λ o. back of o turns e) x
+backs of (Over limit place w) other turns e x = ap (λ o. back of o turns e) x
 backs of More other turns e x = tt
 
 chosen : {A : Type 0} {o o' p p' : Out A} (value : Value) → Up o o' → Up p p' → Up (choose value o p) (choose value o' p')
@@ -207,15 +207,15 @@ module _ (funs : Programs) (limits : Limits) where
         then' (ih.stmts body d (record { world = w; turns = suc s.turns }) e) (λ flow s e.
         again flow s e (then' (value_grows test (v.Bool true) d s e) (λ value s e. chosen value (ih.stmt (DoWhile body test) d s e) same)))
 
-    catches_grow : (t : Catches) (d : Place) (id : ℕ) (s : State) (e : Env) → Up (caught funs limits m d t id s e) (caught funs limits m' d t id s e)
-    catches_grow NoCatch d id s e = same
-    catches_grow (Catch class x body rest) d id s e =
-        either_grows (is_of_class class (slice_get s.world.store.objects id)) (catches_grow rest d id s e) (leaving (ih.stmts body d s (record { name = x; value = v.Ref id } ∷ e)))
+    catches_grow : (t : Catches) (d : Place) (id : ℕ) (place : Arose) (s : State) (e : Env) → Up (caught funs limits m d t id place s e) (caught funs limits m' d t id place s e)
+    catches_grow NoCatch d id place s e = same
+    catches_grow (Catch class x body rest) d id place s e =
+        either_grows (is_of_class class (slice_get s.world.store.objects id)) (catches_grow rest d id place s e) (leaving (ih.stmts body d s (record { name = x; value = v.Ref id } ∷ e)))
 
     handles : (t : Catches) (d : Place) (o other : Out Flow) → Stays o other → Stays (handled funs limits m d t o) (handled funs limits m' d t other)
     handles t d (Done flow s e) other x = ap (λ o. handled funs limits m' d t o) x
-    handles t d (Thrown id s e) other x = subst (λ o. Stays (caught funs limits m d t id s e) (handled funs limits m' d t o)) (sym x) (catches_grow t d id s e).by
-    handles t d (Over limit w) other x = ap (λ o. handled funs limits m' d t o) x
+    handles t d (Thrown id place s e) other x = subst (λ o. Stays (caught funs limits m d t id place s e) (handled funs limits m' d t o)) (sym x) (catches_grow t d id place s e).by
+    handles t d (Over limit place w) other x = ap (λ o. handled funs limits m' d t o) x
     handles t d More other x = tt
 
     stmt_grows : (t : Stmt) (d : Place) (s : State) (e : Env) → Up (stmt_of funs limits m d s e t) (stmt_of funs limits m' d s e t)

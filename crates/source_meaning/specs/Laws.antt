@@ -7,8 +7,8 @@ use Rattle.source_meaning.specs.Meaning.{State, Env, Place, Out, Done, Thrown, O
 -- The first is More, or the second is the first.
 abbrev pub Stays : {A : Type 0} → Out A → Out A → Type 0
 Stays (Done a s e) other = other ≡ Done a s e
-Stays (Thrown id s e) other = other ≡ Thrown id s e
-Stays (Over limit w) other = other ≡ Over limit w
+Stays (Thrown id place s e) other = other ≡ Thrown id place s e
+Stays (Over limit place w) other = other ≡ Over limit place w
 Stays More other = Unit {0}
 
 -- What one meaning says, another says too.

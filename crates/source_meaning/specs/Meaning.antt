@@ -20,16 +20,16 @@ use Rattle.typed_tree.specs.declared.operation.Change.{Change}
 use Rattle.typed_tree.specs.declared.operation.Gives.{Gives as Given_by}
 use Rattle.typed_tree.specs.declared.operation.Gives.TheVariants as gives
 use Rattle.run_state.specs.Calls.{suits_member, wrong_class}
-use Rattle.run_state.specs.World.{World, Limits, Limit, Room, Outcome, Given, Raised, Full, acts_in, Counted, Counts, Passes, allowed_in, has_loop_limit, take_turn, enter, pay_member}
+use Rattle.run_state.specs.World.{World, Limits, Limit, Room, Arose, not_told, Outcome, Given, Raised, Full, acts_in, Counted, Counts, Passes, allowed_in, has_loop_limit, take_turn, enter, pay_member}
 use Rattle.source_meaning.specs.Tree.{Name, Expr, Literal, Quoted, Local, Apply, Guarded, Logic, Conditional, Elvis, Assign, Modify, Lambda, Reference, NewReference, Exprs, None', One, Maybe, Missing, Given as Present, Stmt, Do, If, While, DoWhile, Try, Block, Break, Continue, Return, Throw, Stmts, Finish, Then, Declare, Catches, NoCatch, Catch, Variable, Fun, Programs, functions_in}
 use Rattle.number_ops.specs.Operators.{is_null}
 use Rattle.number_ops.specs.Casts.{cast_at_run_time}
 use Rattle.number_ops.specs.Relations.{is_instance, thrown}
 use Rattle.pl_units.specs.Utf16.{units}
 use Rattle.number_ops.specs.Outcomes as outcomes
-use Rattle.allowlist.specs.Allow.{flag}
+use Rattle.allowlist.specs.Allow.{AllowList, flag}
 use Rattle.allowlist.specs.declared.member.MemberType.{MemberType}
-use Rattle.allowlist.specs.Index.{member_at}
+use Rattle.allowlist.specs.Index.{member_in}
 use Rattle.object_heap.specs.Effects.{Effect}
 use Rattle.def_access.specs.Members.{does}
 use Rattle.def_access.specs.Access.{Access, Calls, Acts as Does, index_read, index_written, name_read, name_written, method_called}
@@ -56,11 +56,12 @@ pub record Place : Type 0 where
   pub text : Owner
   pub depth : ℕ
 
--- What happened: a value, an exception by its number, a limit that would be passed, or more than the bound allows.
+-- What happened: a value, an exception by its number, a limit that would be passed, or more than the bound allows. An exception and a
+-- limit have the place at which they arose.
 pub data Out (A : Type 0) : Type 0 where
   Done : (a : A) (s : State) (e : Env) → Out A
-  Thrown : (id : ℕ) (s : State) (e : Env) → Out A
-  Over : (limit : Limit) (w : World) → Out A
+  Thrown : (id : ℕ) (place : Arose) (s : State) (e : Env) → Out A
+  Over : (limit : Limit) (place : Arose) (w : World) → Out A
   More : Out A
 
 -- how a statement goes on
@@ -70,8 +71,8 @@ pub data Flow : Type 0 where
 
 abbrev pub bind : {A B : Type 0} → Out A → (A → State → Env → Out B) → Out B
 bind (Done a s e) next = next a s e
-bind (Thrown id s e) next = Thrown id s e
-bind (Over limit w) next = Over limit w
+bind (Thrown id place s e) next = Thrown id place s e
+bind (Over limit place w) next = Over limit place w
 bind More next = More
 
 abbrev pub older : Env → Env
@@ -81,8 +82,8 @@ older (b ∷ e) = e
 -- the scope of the newest name ends
 abbrev pub leave : {A : Type 0} → Out A → Out A
 leave (Done a s e) = Done a s (older e)
-leave (Thrown id s e) = Thrown id s (older e)
-leave (Over limit w) = Over limit w
+leave (Thrown id place s e) = Thrown id place s (older e)
+leave (Over limit place w) = Over limit place w
 leave More = More
 
 abbrev pub lookup : Env → Name → Option Value
@@ -116,8 +117,8 @@ found (Some value) s e = Done value s e
 -- what an operation comes to
 abbrev pub effect : Outcome Value → State → Env → Out Value
 effect (Given value w) s e = Done value (record { world = w; turns = s.turns }) e
-effect (Raised id w) s e = Thrown id (record { world = w; turns = s.turns }) e
-effect Full s e = Over Room s.world
+effect (Raised id w) s e = Thrown id not_told (record { world = w; turns = s.turns }) e
+effect Full s e = Over Room not_told s.world
 
 abbrev pub operated : Operated → State → Env → Out Value
 operated Meaningless s e = More
@@ -166,8 +167,8 @@ returned of Continued = None
 
 abbrev pub back : Ty → Out Flow → ℕ → Env → Out Value
 back of (Done flow s' e') turns e = found (returned of flow) (record { world = s'.world; turns = turns }) e
-back of (Thrown id s' e') turns e = Thrown id (record { world = s'.world; turns = turns }) e
-back of (Over limit w) turns e = Over limit w
+back of (Thrown id place s' e') turns e = Thrown id place (record { world = s'.world; turns = turns }) e
+back of (Over limit place w) turns e = Over limit place w
 back of More turns e = More
 
 -- A value is cast to types, one after the other, each in the world that the one before it left.
@@ -185,7 +186,7 @@ module _ (funs : Programs) (limits : Limits) (m : Meaning) where
   -- A body of a text, one deeper. The casts that are due are done in the caller.
   abbrev pub entered : Counted → Owner → List Ty → Place → State → Env → Ty → Stmts → Option Env → Out Value
   entered counted text due d s e of body None = More
-  entered (Passes limit w) text due d s e of body (Some args) = Over limit w
+  entered (Passes limit w) text due d s e of body (Some args) = Over limit not_told w
   entered (Counts w) text due d s e of body (Some args) =
       bind (back of (m.stmts (record { text = text; depth = suc d.depth }) (record { world = w; turns = 0 }) args body) s.turns e)
       (λ value s e. casts_due due value s e)
@@ -201,7 +202,7 @@ module _ (funs : Programs) (limits : Limits) (m : Meaning) where
   acted (Some given) s e = effect (acts_in s.world given) s e
 
   abbrev pub paid : Counted → ℕ → List Value → State → Env → Out Value
-  paid (Passes limit w) number arguments s e = Over limit w
+  paid (Passes limit w) number arguments s e = Over limit not_told w
   paid (Counts w) number arguments s e = acted (does limits.ground.host number arguments w.store) (record { world = w; turns = s.turns }) e
 
   -- a receiver or an argument of another class throws before the call is paid
@@ -216,13 +217,13 @@ module _ (funs : Programs) (limits : Limits) (m : Meaning) where
   member_called (Sends arguments) number t d s e = tested (suits_member s.world.store.objects t arguments) number arguments d s e
   member_called Reads number t d s e = acted (does limits.ground.host number [] s.world.store) s e
 
-  -- a call of a member, which is allowed
-  abbrev pub member_applied : Bool → ℕ → List Value → Place → State → Env → Out Value
-  member_applied false number values d s e = More
-  member_applied true number values d s e = member_called (sent (member_at number) values) number (member_at number) d s e
+  -- a call of a member of a list, which allows it
+  abbrev pub member_applied : AllowList → Bool → ℕ → List Value → Place → State → Env → Out Value
+  member_applied allow false number values d s e = More
+  member_applied allow true number values d s e = member_called (sent (member_in allow number) values) number (member_in allow number) d s e
 
   abbrev pub of_member : Member → List Value → Place → State → Env → Out Value
-  of_member m values d s e = member_applied (flag (allowed_in limits d.text).members m.number) m.number values d s e
+  of_member m values d s e = member_applied (allowed_in limits d.text) (flag (allowed_in limits d.text).members m.number) m.number values d s e
 
   -- what is found for a receiver when the script runs
   abbrev pub accessed : Access → Place → State → Env → Out Value
@@ -325,30 +326,31 @@ module _ (funs : Programs) (limits : Limits) (m : Meaning) where
 
   -- one turn, and then the loop again
   abbrev pub turned : Counted → Place → State → Env → Maybe → Maybe → Stmts → Out Flow
-  turned (Passes limit w) d s e test update body = Over limit w
+  turned (Passes limit w) d s e test update body = Over limit not_told w
   turned (Counts w) d s e test update body =
       bind (m.stmts d (record { world = w; turns = suc s.turns }) e body) (λ flow s e.
       goes_again flow s e (bind (value_if update v.Null d s e) (λ value s e. m.stmt d s e (While test update body))))
 
   abbrev pub done_turn : Counted → Place → State → Env → Stmts → Maybe → Out Flow
-  done_turn (Passes limit w) d s e body test = Over limit w
+  done_turn (Passes limit w) d s e body test = Over limit not_told w
   done_turn (Counts w) d s e body test =
       bind (m.stmts d (record { world = w; turns = suc s.turns }) e body) (λ flow s e.
       goes_again flow s e (bind (value_if test (v.Bool true) d s e) (λ value s e. choose value (m.stmt d s e (DoWhile body test)) (Done Normal s e))))
 
-  -- The first catch that takes an exception, on the world as it was left. The exception is the catch's variable.
-  abbrev pub caught : Place → Catches → ℕ → State → Env → Out Flow
-  caught d NoCatch id s e = Thrown id s e
-  caught d (Catch class x body rest) id s e =
+  -- The first catch that takes an exception, on the world as it was left. The exception is the catch's variable, and where it arose is
+  -- forgotten.
+  abbrev pub caught : Place → Catches → ℕ → Arose → State → Env → Out Flow
+  caught d NoCatch id place s e = Thrown id place s e
+  caught d (Catch class x body rest) id place s e =
       if is_of_class class (slice_get s.world.store.objects id)
       then leave (m.stmts d s (record { name = x; value = v.Ref id } ∷ e) body)
-      else caught d rest id s e
+      else caught d rest id place s e
 
   -- limits pass every `try`
   abbrev pub handled : Place → Catches → Out Flow → Out Flow
   handled d catches (Done flow s e) = Done flow s e
-  handled d catches (Thrown id s e) = caught d catches id s e
-  handled d catches (Over limit w) = Over limit w
+  handled d catches (Thrown id place s e) = caught d catches id place s e
+  handled d catches (Over limit place w) = Over limit place w
   handled d catches More = More
 
   abbrev pub stmt_of : Place → State → Env → Stmt → Out Flow

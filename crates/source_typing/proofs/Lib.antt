@@ -2,7 +2,6 @@ pub mod Values
 pub mod Operations
 pub mod Members
 pub mod Meanings
-pub mod Mains
 -- Lemmas of the libraries below, passed on.
 pub use Rattle.program_typing.proofs.Containers
 pub use Rattle.source_fit.proofs.Effects

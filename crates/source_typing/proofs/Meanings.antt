@@ -10,9 +10,9 @@ use Rattle.pl_types.specs.Classes.{class_is_below}
 use Rattle.allowlist.specs.declared.member.MemberKind.{MemberKind}
 use Rattle.allowlist.specs.declared.member.MemberKind.TheVariants as kind
 use Rattle.allowlist.specs.declared.member.MemberType.{MemberType}
-use Rattle.allowlist.specs.Allow.{flag}
+use Rattle.allowlist.specs.Allow.{AllowList, flag}
 use Rattle.allowlist.specs.Catalogue.{catalogue, constructor}
-use Rattle.allowlist.specs.Index.{member_at}
+use Rattle.allowlist.specs.Index.{member_at, member_in}
 use Rattle.object_values.specs.declared.object.Object.{Object}
 use Rattle.object_values.specs.declared.object.Object.TheVariants as o
 use Rattle.object_values.specs.declared.object.Owner.{Owner}
@@ -39,7 +39,7 @@ use Rattle.number_ops.specs.Relations.{is_instance, thrown}
 use Rattle.number_ops.proofs.KindsOf.{kind_passes}
 use Rattle.value_typing.specs.ContainerCallsLaws.{StillThere}
 use Rattle.value_typing.specs.Members.{is_built, does}
-use Rattle.run_state.specs.World.{World, Limits, Outcome, Given, Raised, Full, acts_in, Counted, Counts, Passes, allowed_in, has_loop_limit, take_turn, enter, pay_member}
+use Rattle.run_state.specs.World.{World, Limits, Arose, Outcome, Given, Raised, Full, acts_in, Counted, Counts, Passes, allowed_in, has_loop_limit, take_turn, enter, pay_member}
 use Rattle.value_typing.specs.Worlds.{WorldFits, count_in, OutcomeFits}
 use Rattle.value_typing.proofs.Counted.{SameStore, turn_keeps, call_keeps, member_keeps}
 use Rattle.source_fit.proofs.Containers.{AccessFits, index_read_fits, index_written_fits, name_read_fits, name_written_fits, method_called_fits}
@@ -50,6 +50,7 @@ use Rattle.source_fit.specs.Tree.{Name, Expr, Literal, Quoted, Local, Apply, Gua
 use Rattle.source_fit.specs.Operating.{Operated, Meaningless, Gives, Acts, operates, operates_to, casts, passed_result}
 use Rattle.source_fit.specs.Members.{Sending, Unsent, OnNull, Sends, Reads, sent_by, sent}
 use Rattle.source_fit.specs.Meaning.{State, Env, Place, Out, Done, Thrown, Over, More, Flow, Normal, Broke, Continued, Returned, bind, leave, lookup, entry, found, effect, operated, choose, goes_next, goes_again, is_of_class, returned, back, cast_each, casts_due, Meaning, entered, called, acted, paid, tested, member_called, member_applied, of_member, accessed, method_applied, name_applied, name_put, index_applied, index_put, applied, logic, changed, modified, written, modified_at, given_by, expr_of, exprs_of, value_if, turned, done_turn, caught, handled, stmt_of, value_or, stmts_of, layer, meaning}
+use Rattle.source_fit.specs.ProgramRules.{rules_of}
 use Rattle.program_typing.proofs.Due.{DueOf, last_type, due_type}
 use Rattle.program_typing.specs.Agreeing.{Scope, IsVariable, boolean, types_of, Calls, TakesTypes, ReceiverIsOf, MemberAgrees, Applies, Changes, Writes, Reads as IsReadBy, ExprAgrees, ExprsAgree, TestAgrees, UpdateAgrees, BeginAgrees, ReturnAgrees, StmtAgrees, StmtsAgree, CatchesAgree, scope_of, FunAgrees, WellFormed, AreWellFormed, known_in}
 use Rattle.value_typing.proofs.Calls.{typed_calls_pass}
@@ -93,16 +94,16 @@ module _ (rules : Rules) where
 
   lower_by : {A : Type 0} (good : List Object → A → Type 0) (start middle : List Object) (g : Scope) (o : Out A) → StillThere start middle → OutTyped good rules middle g o → OutTyped good rules start g o
   lower_by good start middle g (Done a s e) there x = (on_from start middle s.world there x.0, x.1, x.2)
-  lower_by good start middle g (Thrown id s e) there x = (on_from start middle s.world there x.0, x.1, x.2)
-  lower_by good start middle g (Over limit w) there x = on_from start middle w there x
+  lower_by good start middle g (Thrown id place s e) there x = (on_from start middle s.world there x.0, x.1, x.2)
+  lower_by good start middle g (Over limit place w) there x = on_from start middle w there x
   lower_by good start middle g More there x = tt
 
   binds : {A B : Type 0} (good : List Object → A → Type 0) (also : List Object → B → Type 0) (start : List Object) (g : Scope) (o : Out A) (next : A → State → Env → Out B) → OutTyped good rules start g o
       → ((a : A) (s : State) (e : Env) → Here g s e → StillThere start s.world.store.objects → good s.world.store.objects a → Keeps also s.world.store.objects g (next a s e))
       → OutTyped also rules start g (bind o next)
   binds good also start g (Done a s e) next x f = lower_by also start s.world.store.objects g (next a s e) x.0.there (f a s e (x.0.fits, x.1) x.0.there x.2).by
-  binds good also start g (Thrown id s e) next x f = x
-  binds good also start g (Over limit w) next x f = x
+  binds good also start g (Thrown id place s e) next x f = x
+  binds good also start g (Over limit place w) next x f = x
   binds good also start g More next x f = tt
 
   then' : {A B : Type 0} {good : List Object → A → Type 0} {also : List Object → B → Type 0} {start : List Object} {g : Scope} {o : Out A} {next : A → State → Env → Out B} → Keeps good start g o
@@ -112,8 +113,8 @@ module _ (rules : Rules) where
 
   leaves : {A : Type 0} (good : List Object → A → Type 0) (start : List Object) (y : Variable) (g : Scope) (o : Out A) → OutTyped good rules start (y ∷ g) o → OutTyped good rules start g (leave o)
   leaves good start y g (Done a s e) x = (x.0, older_typed s.world.store.objects y g e x.1, x.2)
-  leaves good start y g (Thrown id s e) x = (x.0, older_typed s.world.store.objects y g e x.1, x.2)
-  leaves good start y g (Over limit w) x = x
+  leaves good start y g (Thrown id place s e) x = (x.0, older_typed s.world.store.objects y g e x.1, x.2)
+  leaves good start y g (Over limit place w) x = x
   leaves good start y g More x = tt
 
   leaving : {A : Type 0} {good : List Object → A → Type 0} {start : List Object} {g : Scope} {o : Out A} (y : Variable) → Keeps good start (y ∷ g) o → Keeps good start g (leave o)
@@ -224,8 +225,8 @@ module _ (rules : Rules) where
     backs of inner g start turns e (Done flow s e') h x =
         lower_by (Of of) start s.world.store.objects g (found (returned of flow) (record { world = s.world; turns = turns }) e) x.0.there
         (found_typed of (returned of flow) (record { world = s.world; turns = turns }) e g (x.0.fits, env_grows start s.world.store.objects x.0.there g e h) (returned_typed s.world.store.objects of flow x.2)).by
-    backs of inner g start turns e (Thrown id s e') h x = (x.0, env_grows start s.world.store.objects x.0.there g e h, x.2)
-    backs of inner g start turns e (Over limit w) h x = x
+    backs of inner g start turns e (Thrown id place s e') h x = (x.0, env_grows start s.world.store.objects x.0.there g e h, x.2)
+    backs of inner g start turns e (Over limit place w) h x = x
     backs of inner g start turns e More h x = tt
 
     enters : (c : Counted) (text : Owner) (due : List Ty) (d : Place) (s : State) (e : Env) (g : Scope) (f : Fun) (o : Option Env) → FunAgrees (known_in funs limits text) f → DueOf f.result due → Here g s e
@@ -276,11 +277,11 @@ module _ (rules : Rules) where
         (pays number arguments (pay_member d.text number s.world) s e g h b x (member_keeps d.text number s.world))
     member_calls Reads number d s e g h b x = acts (member_at number).result (does limits.ground.host number [] s.world.store) s e g h (member_is rules s.world limits.ground.host number [] h.0 b x)
 
-    allowed_members : (allowed : Bool) (number : ℕ) (values : List Value) (d : Place) (s : State) (e : Env) (g : Scope) → Here g s e → is_built number ≡ true
-        → SendingTyped s.world.store.objects (member_at number).kind (member_at number).owner (member_at number).params (sent (member_at number) values)
-        → Keeps (Of (member_at number).result) s.world.store.objects g (member_applied funs limits m allowed number values d s e)
-    allowed_members false number values d s e g h b x = record { by = tt }
-    allowed_members true number values d s e g h b x = member_calls (sent (member_at number) values) number d s e g h b x
+    allowed_members : (allow : AllowList) (allowed : Bool) (number : ℕ) (values : List Value) (d : Place) (s : State) (e : Env) (g : Scope) → Here g s e → is_built number ≡ true
+        → SendingTyped s.world.store.objects (member_in allow number).kind (member_in allow number).owner (member_in allow number).params (sent (member_in allow number) values)
+        → Keeps (Of (member_in allow number).result) s.world.store.objects g (member_applied funs limits m allow allowed number values d s e)
+    allowed_members allow false number values d s e g h b x = record { by = tt }
+    allowed_members allow true number values d s e g h b x = member_calls (sent (member_in allow number) values) number d s e g h b x
 
     -- a member of a kind
     members : (sort : MemberKind) (x : Member) (ofs : List Ty) (of : Ty) (values : List Value) (d : Place) (s : State) (e : Env) (g : Scope) → MemberAgrees (known_in funs limits d.text) sort x ofs of
@@ -294,7 +295,7 @@ module _ (rules : Rules) where
         let sending = sent_typed s.world.store.objects sort (member_at x.number).owner (member_at x.number).params ofs values takes receiver args in
         let sending' = subst (λ (k : MemberKind). SendingTyped s.world.store.objects k (member_at x.number).owner (member_at x.number).params (sent_by k (member_at x.number).params values)) (sym sorted) sending in
         subst (λ (of : Ty). Keeps (Of of) s.world.store.objects g (of_member funs limits m x values d s e)) gives
-        (allowed_members (flag (allowed_in limits d.text).members x.number) x.number values d s e g h a.built sending')
+        (allowed_members (allowed_in limits d.text) (flag (allowed_in limits d.text).members x.number) x.number values d s e g h a.built sending')
 
     -- ---- what is found for a receiver when the script runs, which is of type def
 
@@ -499,8 +500,8 @@ module _ (rules : Rules) where
 
     any_by : (of : Ty) (start : List Object) (g : Scope) (o : Out Value) → OutTyped (Of of) rules start g o → OutTyped Any rules start g o
     any_by of start g (Done a s e) x = (x.0, x.1, tt)
-    any_by of start g (Thrown id s e) x = x
-    any_by of start g (Over limit w) x = x
+    any_by of start g (Thrown id place s e) x = x
+    any_by of start g (Over limit place w) x = x
     any_by of start g More x = tt
 
     -- an expression whose value is not looked at
@@ -536,14 +537,14 @@ module _ (rules : Rules) where
         again of flow s e h f (then' (test_keeps test d s e g a.1 h) (λ value s e h n f. chosen value (stmt_ih (DoWhile body test) d s e g of looped a h) (done h tt)))))
 
     -- the exception is the catch's variable, and of its class
-    catches_keep : (x : Catches) (id : ℕ) (d : Place) (s : State) (e : Env) (g : Scope) (of : Ty) (looped : Bool) → CatchesAgree (known_in funs limits d.text) of looped g x → Here g s e
-        → ThrownFits s.world.store.objects id → Keeps (FlowTyped of) s.world.store.objects g (caught funs limits m d x id s e)
-    catches_keep NoCatch id d s e g of looped a h f = record { by = (begun s.world h.0, h.1, f) }
-    catches_keep (Catch class x body rest) id d s e g of looped a h f =
-        takes (catches_keep rest id d s e g of looped a.2 h f) (is_of_class class (slice_get s.world.store.objects id)) refl
+    catches_keep : (x : Catches) (id : ℕ) (place : Arose) (d : Place) (s : State) (e : Env) (g : Scope) (of : Ty) (looped : Bool) → CatchesAgree (known_in funs limits d.text) of looped g x → Here g s e
+        → ThrownFits s.world.store.objects id → Keeps (FlowTyped of) s.world.store.objects g (caught funs limits m d x id place s e)
+    catches_keep NoCatch id place d s e g of looped a h f = record { by = (begun s.world h.0, h.1, f) }
+    catches_keep (Catch class x body rest) id place d s e g of looped a h f =
+        takes (catches_keep rest id place d s e g of looped a.2 h f) (is_of_class class (slice_get s.world.store.objects id)) refl
       where
-        takes : Keeps (FlowTyped of) s.world.store.objects g (caught funs limits m d rest id s e) → (c : Bool) → is_of_class class (slice_get s.world.store.objects id) ≡ c
-            → Keeps (FlowTyped of) s.world.store.objects g (if c then leave (m.stmts d s (record { name = x; value = v.Ref id } ∷ e) body) else caught funs limits m d rest id s e)
+        takes : Keeps (FlowTyped of) s.world.store.objects g (caught funs limits m d rest id place s e) → (c : Bool) → is_of_class class (slice_get s.world.store.objects id) ≡ c
+            → Keeps (FlowTyped of) s.world.store.objects g (if c then leave (m.stmts d s (record { name = x; value = v.Ref id } ∷ e) body) else caught funs limits m d rest id place s e)
         takes others true is_so =
             let there = sym (kind_passes (kind_is_of class) s.world.store.objects id) ∙ class_passes class (slice_get s.world.store.objects id) is_so in
             let exception : IsTyped s.world.store.objects (t.Class class) (v.Ref id) = record { there = f.0; is = object_typed s.world.store.objects class id there } in
@@ -554,9 +555,9 @@ module _ (rules : Rules) where
     handles : (x : Catches) (d : Place) (g : Scope) (of : Ty) (looped : Bool) (start : List Object) (o : Out Flow) → CatchesAgree (known_in funs limits d.text) of looped g x
         → OutTyped (FlowTyped of) rules start g o → OutTyped (FlowTyped of) rules start g (handled funs limits m d x o)
     handles x d g of looped start (Done flow s e) a h = h
-    handles x d g of looped start (Thrown id s e) a h =
-        lower_by (FlowTyped of) start s.world.store.objects g (caught funs limits m d x id s e) h.0.there (catches_keep x id d s e g of looped a (h.0.fits, h.1) h.2).by
-    handles x d g of looped start (Over limit w) a h = h
+    handles x d g of looped start (Thrown id place s e) a h =
+        lower_by (FlowTyped of) start s.world.store.objects g (caught funs limits m d x id place s e) h.0.there (catches_keep x id place d s e g of looped a (h.0.fits, h.1) h.2).by
+    handles x d g of looped start (Over limit place w) a h = h
     handles x d g of looped start More a h = tt
 
     returns : (value : Maybe) (of : Ty) (d : Place) (s : State) (e : Env) (g : Scope) → ReturnAgrees (known_in funs limits d.text) g value of → Here g s e
@@ -614,20 +615,19 @@ formed_in funs limits h Script = h.script
 formed_in funs limits h Prelude = h.prelude
 
 pub meanings_are_typed : MeaningsAreTyped
-meanings_are_typed rules funs limits zero every a = record {
+meanings_are_typed funs limits zero a = record {
   expr = λ x d s e g a h. tt;
   exprs = λ x d s e g a h. tt;
   stmt = λ x d s e g of looped a h. tt;
   stmts = λ x d s e g of looped a h. tt;
 }
-meanings_are_typed rules funs limits (suc n) every a =
-    deeper rules every funs limits (formed_in funs limits a) (meaning funs limits n) (meanings_are_typed rules funs limits n every a)
+meanings_are_typed funs limits (suc n) a = deeper (rules_of funs) refl funs limits (formed_in funs limits a) (meaning funs limits n) (meanings_are_typed funs limits n a)
 
 entered_typed : (objects : List Object) (g : Scope) (o : Option Env) (e : Env) → o ≡ Some e → EntryTyped objects g o → EnvTyped objects g e
 entered_typed objects g o e is h = subst (EntryTyped objects g) is h
 
 pub results_are_typed : ResultsAreTyped
-results_are_typed rules funs limits bound every a main is w arguments f h e entered =
+results_are_typed funs limits bound a main is w arguments f h e entered =
     let fun = a.script.each 0 main is in
-    (meanings_are_typed rules funs limits bound every a).stmts main.body (record { text = Script; depth = 0 }) (record { world = w; turns = 0 }) e (scope_of main.params []) main.result false fun.body
+    (meanings_are_typed funs limits bound a).stmts main.body (record { text = Script; depth = 0 }) (record { world = w; turns = 0 }) e (scope_of main.params []) main.result false fun.body
     (f, entered_typed w.store.objects (scope_of main.params []) _ e entered (entry_typed w.store.objects main.params arguments [] [] h tt))

@@ -44,23 +44,14 @@ pub record MeaningTyped (rules : Rules) (funs : Programs) (limits : Limits) (m :
   pub stmts : (x : Stmts) (d : Place) (s : State) (e : Env) (g : Scope) (of : Ty) (looped : Bool) → StmtsAgree (known_in funs limits d.text) of looped g x → StateTyped rules g s e
       → OutTyped (FlowTyped of) rules s.world.store.objects g (m.stmts d s e x)
 
--- At every bound, where the store fits by the rules of a program: each element of an array is of its element type.
+-- At every bound, by the rules of the program: each element of an array is of its element type.
 abbrev pub MeaningsAreTyped : Type 0
-MeaningsAreTyped = (rules : Rules) (funs : Programs) (limits : Limits) (bound : ℕ) → rules.typed ≡ Every → AreWellFormed funs limits → MeaningTyped rules funs limits (meaning funs limits bound)
+MeaningsAreTyped = (funs : Programs) (limits : Limits) (bound : ℕ) → AreWellFormed funs limits → MeaningTyped (rules_of funs) funs limits (meaning funs limits bound)
 
--- A main script, on arguments of its parameters' types in a store that fits, returns a value of its result's type in the store that it
--- leaves.
+-- A main script, on arguments of its parameters' types in a store that fits the program, returns a value of its result's type in the store
+-- that it leaves, which fits the program.
 abbrev pub ResultsAreTyped : Type 0
 ResultsAreTyped =
-    (rules : Rules) (funs : Programs) (limits : Limits) (bound : ℕ) → rules.typed ≡ Every → AreWellFormed funs limits → (main : Fun) → slice_get funs.script 0 ≡ Some main
-    → (w : World) (arguments : List Value) → Fits rules w.store.objects → AreTyped w.store.objects (types_in main.params) arguments
-    → (e : Env) → entry main.params arguments [] ≡ Some e
-    → OutTyped (FlowTyped main.result) rules w.store.objects (scope_of main.params [])
-    ((meaning funs limits bound).stmts (record { text = Script; depth = 0 }) (record { world = w; turns = 0 }) e main.body)
-
--- So from a store that fits its program it leaves one that does.
-abbrev pub MainsAreTyped : Type 0
-MainsAreTyped =
     (funs : Programs) (limits : Limits) (bound : ℕ) → AreWellFormed funs limits → (main : Fun) → slice_get funs.script 0 ≡ Some main
     → (w : World) (arguments : List Value) → FitsProgram funs w.store → AreTyped w.store.objects (types_in main.params) arguments
     → (e : Env) → entry main.params arguments [] ≡ Some e

@@ -43,10 +43,10 @@ abbrev pub FlowTyped : Ty → List Object → Flow → Type 0
 FlowTyped of objects (Returned value) = IsTyped objects of value
 FlowTyped of objects other = Unit {0}
 
--- What it comes to, where these objects were there: they still are, each of its kind, the names keep their types, and a value is of its
--- type, or an exception is there, in the store behind it.
+-- What it comes to, where these objects were there: they still are, each of its kind or with an interface that it has taken, the names keep
+-- their types, and a value is of its type, or an exception is there, in the store behind it.
 abbrev pub OutTyped : {A : Type 0} → (List Object → A → Type 0) → Rules → List Object → Scope → Out A → Type 0
 OutTyped good rules start g (Done a s e) = WorldFits rules start s.world × EnvTyped s.world.store.objects g e × good s.world.store.objects a
-OutTyped good rules start g (Thrown id s e) = WorldFits rules start s.world × EnvTyped s.world.store.objects g e × ThrownFits s.world.store.objects id
-OutTyped good rules start g (Over limit w) = WorldFits rules start w
+OutTyped good rules start g (Thrown id place s e) = WorldFits rules start s.world × EnvTyped s.world.store.objects g e × ThrownFits s.world.store.objects id
+OutTyped good rules start g (Over limit place w) = WorldFits rules start w
 OutTyped good rules start g More = Unit {0}

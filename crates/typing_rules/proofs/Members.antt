@@ -15,7 +15,7 @@ use Rattle.allowlist.specs.declared.name.Accessor.TheVariants as accessor
 use Rattle.allowlist.specs.Accessors.{accessor_name, capitalized}
 use Rattle.allowlist.specs.Catalogue.{catalogue, constructor}
 use Rattle.allowlist.specs.Allow.{AllowList, flag, first_member, first_along, or_else, own_member, member_of, is_called, has_name}
-use Rattle.allowlist.specs.Index.{member_at}
+use Rattle.allowlist.specs.Index.{member_at, member_in}
 use Rattle.allowlist.proofs.Members.{own_of, asks}
 use Rattle.allowlist.proofs.Places.{own_found}
 use Rattle.allowlist.proofs.Tables.{length-catalogue}
@@ -75,7 +75,7 @@ passes : (test : ℕ → MemberType → Bool) (n : ℕ) (ms : List MemberType) (
 passes test n [] k h = cc
 passes test n (m ∷ ms) k h = passes_at test n m ms k (test n m) refl h (passes test (n + 1) ms k)
 
-own_owner : (allow : AllowList) (class : ℕ) (name : List ℕ) (arity number : ℕ) → own_member allow class name arity ≡ Some number → (member_at number).owner ≡ class
+own_owner : (allow : AllowList) (class : ℕ) (name : List ℕ) (arity number : ℕ) → own_member allow class name arity ≡ Some number → (member_in allow number).owner ≡ class
 unfolding own_member
 own_owner allow class name arity number h =
     let p = passes (asks allow class name arity) 0 catalogue number h in
@@ -101,15 +101,15 @@ pub own_none : (allow : AllowList) (class : ℕ) (name : List ℕ) (arity : ℕ)
 own_none allow class name arity h = none_at allow class name arity (own_member allow class name arity) refl h
 
 other_at : (allow : AllowList) (class : ℕ) (name : List ℕ) (arity number : ℕ) (own : Option ℕ) → own_member allow class name arity ≡ own → member_of allow class name arity ≡ Some number
-    → (member_at number).owner ≢ class → own_member allow class name arity ≡ None
+    → (member_in allow number).owner ≢ class → own_member allow class name arity ≡ None
 other_at allow class name arity number None e h differs = e
 other_at allow class name arity number (Some k) e h differs =
     let s : Some k ≡ Some number = sym (own_first allow class name arity k e) ∙ h in
     let n : k ≡ number = cc in
-    absurd (differs (ap (λ j. (member_at j).owner) (sym n) ∙ own_owner allow class name arity k e))
+    absurd (differs (ap (λ j. (member_in allow j).owner) (sym n) ∙ own_owner allow class name arity k e))
 
 -- what is found above it is not its own
-pub own_other : (allow : AllowList) (class : ℕ) (name : List ℕ) (arity number : ℕ) → member_of allow class name arity ≡ Some number → (member_at number).owner ≢ class → own_member allow class name arity ≡ None
+pub own_other : (allow : AllowList) (class : ℕ) (name : List ℕ) (arity number : ℕ) → member_of allow class name arity ≡ Some number → (member_in allow number).owner ≢ class → own_member allow class name arity ≡ None
 own_other allow class name arity number h differs = other_at allow class name arity number (own_member allow class name arity) refl h differs
 
 called : (class : ℕ) (name : List ℕ) (arity : ℕ) (m : MemberType) → m.owner ≡ class → m.name ≡ name → length m.params ≡ arity → is_called class name arity m ≡ true
@@ -123,7 +123,7 @@ has_flag (b ∷ bs) zero h = ap Some h
 has_flag (b ∷ bs) (suc number) h = has_flag bs number h
 
 -- and what is its own is
-pub own_is : (allow : AllowList) (class : ℕ) (name : List ℕ) (arity number : ℕ) → member_of allow class name arity ≡ Some number → (member_at number).owner ≡ class → own_member allow class name arity ≡ Some number
+pub own_is : (allow : AllowList) (class : ℕ) (name : List ℕ) (arity number : ℕ) → member_of allow class name arity ≡ Some number → (member_in allow number).owner ≡ class → own_member allow class name arity ≡ Some number
 own_is allow class name arity number h owner =
     let found = found_is_allowed allow class name arity number h in
     let at = read_at number found.1.0 found.1.1 in

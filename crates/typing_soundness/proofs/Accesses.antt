@@ -91,8 +91,8 @@ module _ (funs : Script) (g : Scope) where
   pub got_is : (access : Access) (at c : ℕ) (x i y : Part) → out-Ty (type_of_part x) ≡ Ty-F.Class c → got funs.allowed access at c x i ≡ Ok y → PartIs funs g x → PartIs funs g i → PartIs funs g y
   got_is access at c x i y is e hx hi =
       let a = passed (get_of funs.allowed at c) _ y e in
-      let b = passed (instance_call access at a.given x (i ∷ [])) _ y a.then' in
-      let found = (wants kind.Instance at (member_of funs.allowed c (codes "get") 1) a.given a.first).is in
+      let b = passed (instance_call funs.allowed access at a.given x (i ∷ [])) _ y a.then' in
+      let found = (wants funs.allowed kind.Instance at (member_of funs.allowed c (codes "get") 1) a.given a.first).is in
       let called = instance_is funs g access at c a.given x b.given (i ∷ []) (callable funs g kind.Instance at 1 _ a.given a.first (found_allowed funs.allowed c (codes "get") 1 a.given)) is
       (found_receives funs.allowed c (codes "get") 1 a.given found) b.first hx (hi, tt) in
       settled (PartIs funs g) (plainly b.given) y b.then' (record { typed = called.typed; built = called.built })

@@ -7,6 +7,6 @@ use Rattle.typing_soundness.specs.Laws.{beside, TypingKeepsTypes}
 use Rattle.typing_soundness.proofs.Functions.{typing_is_sound}
 
 pub typing_keeps_types : TypingKeepsTypes
-typing_keeps_types allow context tree p good is prelude limits allowed formed rules bound every =
+typing_keeps_types allow context tree p good is prelude limits allowed formed bound =
     let script = subst (λ list. WellFormed (known list (program_of p))) (sym allowed) (typing_is_sound allow context tree p good is) in
-    meanings_are_typed rules (beside p prelude) limits bound every (record { script = script; prelude = formed })
+    meanings_are_typed (beside p prelude) limits bound (record { script = script; prelude = formed })

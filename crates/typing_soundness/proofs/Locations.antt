@@ -11,9 +11,9 @@ use Rattle.pl_types.specs.declared.ty.Ty.TheOpen.{Ty-F}
 use Rattle.pl_types.specs.Classes.{class_is_below}
 use Rattle.allowlist.specs.declared.member.MemberKind.TheVariants as kind
 use Rattle.allowlist.specs.declared.member.MemberType.{MemberType}
-use Rattle.allowlist.specs.Allow.{member_of}
-use Rattle.allowlist.specs.Catalogue.{catalogue, constructor}
-use Rattle.allowlist.specs.Index.{member_at}
+use Rattle.allowlist.specs.Allow.{AllowList, member_of, members_in}
+use Rattle.allowlist.specs.Catalogue.{constructor}
+use Rattle.allowlist.specs.Index.{member_in}
 use Rattle.allowlist.proofs.Unique.{found_is_allowed, found_above}
 use Rattle.typed_tree.specs.declared.operation.Operation.{Operation}
 use Rattle.typed_tree.specs.declared.operation.Operation.TheVariants as o
@@ -40,26 +40,26 @@ use Rattle.typing_soundness.proofs.Rows.{get_gives, map_get_takes, list_get_take
 
 -- ---- a member that is found, by its row
 
-record Row (class : ℕ) (name : List ℕ) (arity number : ℕ) : Type 0 where
-  is : slice_get catalogue number ≡ Some (member_at number)
-  named : (member_at number).name ≡ name
-  takes : length (member_at number).params ≡ arity
-  below : class_is_below class (member_at number).owner ≡ true
+record Row (allow : AllowList) (class : ℕ) (name : List ℕ) (arity number : ℕ) : Type 0 where
+  is : slice_get (members_in allow) number ≡ Some (member_in allow number)
+  named : (member_in allow number).name ≡ name
+  takes : length (member_in allow number).params ≡ arity
+  below : class_is_below class (member_in allow number).owner ≡ true
 
-abbrev same_member : (number : ℕ) (m : MemberType) → slice_get catalogue number ≡ Some m → member_at number ≡ m
-same_member number m is = get_or_from_slice_get catalogue number m (constructor 0 []) is
+abbrev same_member : (allow : AllowList) (number : ℕ) (m : MemberType) → slice_get (members_in allow) number ≡ Some m → member_in allow number ≡ m
+same_member allow number m is = get_or_from_slice_get (members_in allow) number m (constructor 0 []) is
 
 module _ (funs : Script) where
-  row_of : (class : ℕ) (name : List ℕ) (arity number : ℕ) → member_of funs.allowed class name arity ≡ Some number → Row class name arity number
+  row_of : (class : ℕ) (name : List ℕ) (arity number : ℕ) → member_of funs.allowed class name arity ≡ Some number → Row funs.allowed class name arity number
   row_of class name arity number e =
       let found = (found_is_allowed funs.allowed class name arity number e).1 in
       let above = found_above funs.allowed class name arity number e in
-      let same = same_member number found.0 found.1 in
+      let same = same_member funs.allowed number found.0 found.1 in
       record {
         is = found.1 ∙ ap Some (sym same);
         named = ap (λ (m : MemberType). m.name) same ∙ found.2;
         takes = ap (λ (m : MemberType). length m.params) same ∙ found.3;
-        below = subst (λ (m : MemberType). class_is_below class m.owner ≡ true) (sym (same_member number above.0 above.1)) above.2;
+        below = subst (λ (m : MemberType). class_is_below class m.owner ≡ true) (sym (same_member funs.allowed number above.0 above.1)) above.2;
       }
 
   module _ (g : Scope) where
@@ -79,7 +79,7 @@ module _ (funs : Script) where
     -- what a member reads, where one does: what it gives is of the type that is written
     abbrev ReadBy : Option ℕ → List Ty → Ty → Type 0
     ReadBy None ofs of = Unit {0}
-    ReadBy (Some number) ofs of = MemberAgrees funs kind.Instance (member number) ofs (result number) × (result number ≡ of)
+    ReadBy (Some number) ofs of = MemberAgrees funs kind.Instance (member funs.allowed number) ofs (result funs.allowed number) × (result funs.allowed number ≡ of)
 
     -- something is read where it is asked for
     abbrev IsAsked : Option ℕ → Option ℕ → Type 0
@@ -87,16 +87,16 @@ module _ (funs : Script) where
     IsAsked (Some at) None = ⊥
     IsAsked (Some at) (Some number) = Unit {0}
 
-    member_reads : (by read : Option ℕ) (ofs : List Ty) (of : Ty) → IsAsked by read → ReadBy read ofs of → ReadsBy funs by (instance_if read) ofs (given_by read of) of
+    member_reads : (by read : Option ℕ) (ofs : List Ty) (of : Ty) → IsAsked by read → ReadBy read ofs of → ReadsBy funs by (instance_if funs.allowed read) ofs (given_by funs.allowed read of) of
     member_reads None read ofs of asked h = tt
     member_reads (Some at) None ofs of asked h = absurd asked
     member_reads (Some at) (Some number) ofs of asked h = (h.0, h.1)
 
     held_by_is : (by read : Option ℕ) (write : ℕ) (parts : List Typed) (of : Ty) → ExprsAgree funs g (exprs_of (map expr_of parts)) → IsPlace (types_in parts) → IsAsked by read
-        → ReadBy read (types_in parts) of → MemberAgrees funs kind.Instance (member write) (types_in parts ++ of ∷ []) (result write) → IsBuilt of
-        → PlaceIs funs by g (held_by read write parts of)
+        → ReadBy read (types_in parts) of → MemberAgrees funs kind.Instance (member funs.allowed write) (types_in parts ++ of ∷ []) (result funs.allowed write) → IsBuilt of
+        → PlaceIs funs by g (held_by funs.allowed read write parts of)
     held_by_is by read write parts of h short asked r w b = record {
-      target = record { agree = h; short = short; reads = member_reads by read (types_in parts) of asked r; writes = record { given = result write; agrees = w } };
+      target = record { agree = h; short = short; reads = member_reads by read (types_in parts) of asked r; writes = record { given = result funs.allowed write; agrees = w } };
       built = b;
     }
 
@@ -111,7 +111,7 @@ module _ (funs : Script) where
         let a = passed found (λ (number : ℕ). accepted (Some number)) read e in
         settled (ReadIs (Some at) found) (Some a.given) read a.then' (record { asked = tt; each = λ number is. let same : a.given ≡ number = cc in a.first ∙ ap (λ (n : ℕ). Ok n) same })
 
-    read_by : (read : Option ℕ) (ofs : List Ty) (of : Ty) → ((number : ℕ) → read ≡ Some number → MemberAgrees funs kind.Instance (member number) ofs (result number) × (result number ≡ of))
+    read_by : (read : Option ℕ) (ofs : List Ty) (of : Ty) → ((number : ℕ) → read ≡ Some number → MemberAgrees funs kind.Instance (member funs.allowed number) ofs (result funs.allowed number) × (result funs.allowed number ≡ of))
         → ReadBy read ofs of
     read_by None ofs of h = tt
     read_by (Some number) ofs of h = h number refl
@@ -119,21 +119,21 @@ module _ (funs : Script) where
     -- ---- members of a class, with their arguments
 
     -- a member that is found of a receiver's class takes it, and these types
-    agrees_on : (class arity number : ℕ) (x : Part) (ofs : List Ty) → Callable funs g kind.Instance arity number → out-Ty (type_of_part x) ≡ Ty-F.Class class → Receives class number → PartIs funs g x
-        → (member_at number).params ≡ ofs → MemberAgrees funs kind.Instance (member number) (type_of (expr_of x.typed) ∷ ofs) (result number)
+    agrees_on : (class arity number : ℕ) (x : Part) (ofs : List Ty) → Callable funs g kind.Instance arity number → out-Ty (type_of_part x) ≡ Ty-F.Class class → Receives funs.allowed class number → PartIs funs g x
+        → (member_in funs.allowed number).params ≡ ofs → MemberAgrees funs kind.Instance (member funs.allowed number) (type_of (expr_of x.typed) ∷ ofs) (result funs.allowed number)
     agrees_on class arity number x ofs c is receives hx params =
         agrees_by funs g kind.Instance arity number (type_of (expr_of x.typed) ∷ ofs) c
         (subst IsReference (sym hx.typed.is) (reference_by (type_of_part x) (Ty-F.Class class) is tt), sym params)
-        (subst (λ of. IsGiven cast.Keep of (t.Class (member_at number).owner)) (sym (class_by (type_of_part x) class is) ∙ sym hx.typed.is) receives)
+        (subst (λ of. IsGiven cast.Keep of (t.Class (member_in funs.allowed number).owner)) (sym (class_by (type_of_part x) class is) ∙ sym hx.typed.is) receives)
 
     record Found (class : ℕ) (name : List ℕ) (arity number : ℕ) : Type 0 where
-      row : Row class name arity number
+      row : Row funs.allowed class name arity number
       callable : Callable funs g kind.Instance arity number
-      receives : Receives class number
+      receives : Receives funs.allowed class number
 
-    found_by : (at class : ℕ) (name : List ℕ) (arity number : ℕ) → wanted kind.Instance at (member_of funs.allowed class name arity) ≡ Ok number → Found class name arity number
+    found_by : (at class : ℕ) (name : List ℕ) (arity number : ℕ) → wanted funs.allowed kind.Instance at (member_of funs.allowed class name arity) ≡ Ok number → Found class name arity number
     found_by at class name arity number e =
-        let found = (wants kind.Instance at (member_of funs.allowed class name arity) number e).is in
+        let found = (wants funs.allowed kind.Instance at (member_of funs.allowed class name arity) number e).is in
         record {
           row = row_of class name arity number found;
           callable = callable funs g kind.Instance at arity _ number e (found_allowed funs.allowed class name arity number);
@@ -192,12 +192,12 @@ module _ (funs : Script) where
         (held_by_is by a.given b.given (x.typed ∷ d.given ∷ []) t.Def (hx.typed.agrees, (index.agrees, tt)) tt reads.asked
         (read_by a.given (types_in (x.typed ∷ d.given ∷ [])) t.Def (λ number it.
         let get = found_by at c (codes "get") 1 number (reads.each number it) in (
-          second (λ ofs. MemberAgrees funs kind.Instance (member number) ofs (result number)) _ _ t.Def index.is
-              (agrees_on c 1 number x (t.Def ∷ []) get.callable is get.receives hx (map_get_takes c number (member_at number) get.row.is get.row.named get.row.takes small maps get.row.below)),
-          get_gives number (member_at number) get.row.is get.row.named get.row.takes,
+          second (λ ofs. MemberAgrees funs kind.Instance (member funs.allowed number) ofs (result funs.allowed number)) _ _ t.Def index.is
+              (agrees_on c 1 number x (t.Def ∷ []) get.callable is get.receives hx (map_get_takes c number (member_in funs.allowed number) get.row.is get.row.named get.row.takes small maps get.row.below)),
+          get_gives number (member_in funs.allowed number) get.row.is get.row.named get.row.takes,
         )))
-        (second (λ ofs. MemberAgrees funs kind.Instance (member b.given) (ofs ++ t.Def ∷ []) (result b.given)) _ _ t.Def index.is
-        (agrees_on c 2 b.given x (t.Def ∷ t.Def ∷ []) put.callable is put.receives hx (put_takes b.given (member_at b.given) put.row.is put.row.named put.row.takes)))
+        (second (λ ofs. MemberAgrees funs kind.Instance (member funs.allowed b.given) (ofs ++ t.Def ∷ []) (result funs.allowed b.given)) _ _ t.Def index.is
+        (agrees_on c 2 b.given x (t.Def ∷ t.Def ∷ []) put.callable is put.receives hx (put_takes b.given (member_in funs.allowed b.given) put.row.is put.row.named put.row.takes)))
         def_built)
 
     in_class_is : (maps lists : Bool) (number : ℕ) (by : Option ℕ) (at c : ℕ) (x i : Part) (p : Place) → is_map c ≡ maps → out-Ty (type_of_part x) ≡ Ty-F.Class c
@@ -221,13 +221,13 @@ module _ (funs : Script) where
 
     -- a getter is found by `get` or by `is`
     getter_row : (c : ℕ) (name : List ℕ) (number : ℕ) → getter funs.allowed c name ≡ Some number
-        → (slice_get catalogue number ≡ Some (member_at number)) × (((member_at number).name ≡ codes "get" ++ capital name) ⊎ ((member_at number).name ≡ codes "is" ++ capital name))
-        × (length (member_at number).params ≡ 0)
+        → (slice_get (members_in funs.allowed) number ≡ Some (member_in funs.allowed number)) × (((member_in funs.allowed number).name ≡ codes "get" ++ capital name) ⊎ ((member_in funs.allowed number).name ≡ codes "is" ++ capital name))
+        × (length (member_in funs.allowed number).params ≡ 0)
     getter_row c name number e = pick (either_found _ _ number e)
       where
         pick : (member_of funs.allowed c (codes "get" ++ capital name) 0 ≡ Some number) ⊎ (member_of funs.allowed c (codes "is" ++ capital name) 0 ≡ Some number)
-            → (slice_get catalogue number ≡ Some (member_at number)) × (((member_at number).name ≡ codes "get" ++ capital name) ⊎ ((member_at number).name ≡ codes "is" ++ capital name))
-            × (length (member_at number).params ≡ 0)
+            → (slice_get (members_in funs.allowed) number ≡ Some (member_in funs.allowed number)) × (((member_in funs.allowed number).name ≡ codes "get" ++ capital name) ⊎ ((member_in funs.allowed number).name ≡ codes "is" ++ capital name))
+            × (length (member_in funs.allowed number).params ≡ 0)
         pick (inl e) = let row = row_of c (codes "get" ++ capital name) 0 number e in (row.is, inl row.named, row.takes)
         pick (inr e) = let row = row_of c (codes "is" ++ capital name) 0 number e in (row.is, inr row.named, row.takes)
 
@@ -238,22 +238,22 @@ module _ (funs : Script) where
     accessors_are : (by : Option ℕ) (at : ℕ) (name : List ℕ) (c : ℕ) (x : Part) (p : Place) → out-Ty (type_of_part x) ≡ Ty-F.Class c → by_accessors funs.allowed by at name c x ≡ Ok p → PartIs funs g x
         → PlaceIs funs by g p
     accessors_are by at name c x p is e hx =
-        let a = passed (read_if by (wanted kind.Instance at (getter funs.allowed c name))) _ p e in
-        let b = passed (wanted kind.Instance at (setter funs.allowed c name)) _ p a.then' in
-        let reads = read_is by (wanted kind.Instance at (getter funs.allowed c name)) a.given a.first in
+        let a = passed (read_if by (wanted funs.allowed kind.Instance at (getter funs.allowed c name))) _ p e in
+        let b = passed (wanted funs.allowed kind.Instance at (setter funs.allowed c name)) _ p a.then' in
+        let reads = read_is by (wanted funs.allowed kind.Instance at (getter funs.allowed c name)) a.given a.first in
         let set = found_by at c (codes "set" ++ capital name) 1 b.given b.first in
-        let takes : (member_at b.given).params ≡ taken_by b.given ∷ [] = first_taken (member_at b.given).params set.row.takes in
+        let takes : (member_in funs.allowed b.given).params ≡ taken_by funs.allowed b.given ∷ [] = first_taken (member_in funs.allowed b.given).params set.row.takes in
         settled (PlaceIs funs by g) _ p b.then'
-        (held_by_is by a.given b.given (x.typed ∷ []) (taken_by b.given) (hx.typed.agrees, tt) tt reads.asked
-        (read_by a.given (types_in (x.typed ∷ [])) (taken_by b.given) (λ number it.
-        let w = wants kind.Instance at (getter funs.allowed c name) number (reads.each number it) in
+        (held_by_is by a.given b.given (x.typed ∷ []) (taken_by funs.allowed b.given) (hx.typed.agrees, tt) tt reads.asked
+        (read_by a.given (types_in (x.typed ∷ [])) (taken_by funs.allowed b.given) (λ number it.
+        let w = wants funs.allowed kind.Instance at (getter funs.allowed c name) number (reads.each number it) in
         let row = getter_row c name number w.is in (
           agrees_on c 0 number x [] (callable funs g kind.Instance at 0 _ number (reads.each number it) (getter_allowed funs.allowed c name number)) is (getter_receives funs.allowed c name number w.is) hx
-              (none_taken (member_at number).params row.2),
-          accessors_agree (capital name) number b.given (member_at number) (member_at b.given) row.0 set.row.is row.1 row.2 set.row.named set.row.takes,
+              (none_taken (member_in funs.allowed number).params row.2),
+          accessors_agree (capital name) number b.given (member_in funs.allowed number) (member_in funs.allowed b.given) row.0 set.row.is row.1 row.2 set.row.named set.row.takes,
         )))
-        (agrees_on c 1 b.given x (taken_by b.given ∷ []) set.callable is set.receives hx takes)
-        (setter_built (capital name) b.given (member_at b.given) set.row.is set.row.named set.row.takes))
+        (agrees_on c 1 b.given x (taken_by funs.allowed b.given ∷ []) set.callable is set.receives hx takes)
+        (setter_built (capital name) b.given (member_in funs.allowed b.given) set.row.is set.row.named set.row.takes))
 
     class_named : (maps : Bool) (c : ℕ) (by : Option ℕ) (at : ℕ) (name : List ℕ) (x : Part) (p : Place) → is_map c ≡ maps → out-Ty (type_of_part x) ≡ Ty-F.Class c
         → (if maps then in_map funs.allowed by at c x (text_part at name) else by_accessors funs.allowed by at name c x) ≡ Ok p → PartIs funs g x → PlaceIs funs by g p
@@ -297,12 +297,12 @@ module _ (funs : Script) where
         (held_by_is by a.given b.given (x.typed ∷ d.given ∷ []) t.Def (hx.typed.agrees, (index.agrees, tt)) tt reads.asked
         (read_by a.given (types_in (x.typed ∷ d.given ∷ [])) t.Def (λ number it.
         let get = found_by at c (codes "get") 1 number (reads.each number it) in (
-          second (λ ofs. MemberAgrees funs kind.Instance (member number) ofs (result number)) _ _ (t.Prim prim.Int) index.is
-              (agrees_on c 1 number x (t.Prim prim.Int ∷ []) get.callable is get.receives hx (list_get_takes c number (member_at number) get.row.is get.row.named get.row.takes small lists get.row.below)),
-          get_gives number (member_at number) get.row.is get.row.named get.row.takes,
+          second (λ ofs. MemberAgrees funs kind.Instance (member funs.allowed number) ofs (result funs.allowed number)) _ _ (t.Prim prim.Int) index.is
+              (agrees_on c 1 number x (t.Prim prim.Int ∷ []) get.callable is get.receives hx (list_get_takes c number (member_in funs.allowed number) get.row.is get.row.named get.row.takes small lists get.row.below)),
+          get_gives number (member_in funs.allowed number) get.row.is get.row.named get.row.takes,
         )))
-        (second (λ ofs. MemberAgrees funs kind.Instance (member b.given) (ofs ++ t.Def ∷ []) (result b.given)) _ _ (t.Prim prim.Int) index.is
-        (agrees_on c 2 b.given x (t.Prim prim.Int ∷ t.Def ∷ []) set.callable is set.receives hx (set_takes b.given (member_at b.given) set.row.is set.row.named set.row.takes)))
+        (second (λ ofs. MemberAgrees funs kind.Instance (member funs.allowed b.given) (ofs ++ t.Def ∷ []) (result funs.allowed b.given)) _ _ (t.Prim prim.Int) index.is
+        (agrees_on c 2 b.given x (t.Prim prim.Int ∷ t.Def ∷ []) set.callable is set.receives hx (set_takes b.given (member_in funs.allowed b.given) set.row.is set.row.named set.row.takes)))
         def_built)
 
     class_numbered : (maps lists : Bool) (number c : ℕ) (by : Option ℕ) (at : ℕ) (digits : List ℕ) (x : Part) (p : Place) → is_map c ≡ maps → is_list c ≡ lists → out-Ty (type_of_part x) ≡ Ty-F.Class c

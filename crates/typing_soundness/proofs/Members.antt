@@ -16,9 +16,9 @@ use Rattle.pl_tree.specs.declared.operator.Access.TheVariants as through
 use Rattle.allowlist.specs.declared.member.MemberKind.{MemberKind}
 use Rattle.allowlist.specs.declared.member.MemberKind.TheVariants as kind
 use Rattle.allowlist.specs.declared.member.MemberType.{MemberType}
-use Rattle.allowlist.specs.Allow.{AllowList, flag, is_called, has_name, first_member, own_member, member_of}
+use Rattle.allowlist.specs.Allow.{AllowList, flag, is_called, has_name, first_member, own_member, member_of, members_in}
 use Rattle.allowlist.specs.Catalogue.{catalogue, constructor}
-use Rattle.allowlist.specs.Index.{member_at}
+use Rattle.allowlist.specs.Index.{member_in}
 use Rattle.allowlist.proofs.Unique.{found_is_allowed, found_above}
 use Rattle.source_typing.specs.ContainerCallsMembers.{container_ranges}
 use Rattle.source_typing.proofs.Owners.{holds_of_all, holds_at, if_then, then_holds}
@@ -114,19 +114,19 @@ member_shallow m e =
     and_from (is_built_class m.owner) _ first.0 (and_from (list_all is_shallow m.params) (is_shallow m.result) (all_shallow m.params second.0) (open_shallow m.result second.1))
 
 -- what is open in the member of a number
-pub record Opens (number : ℕ) : Type 0 where
-  pub is : is_open_at number ≡ true
-  pub params : list_all is_open (member_at number).params ≡ true
-  pub result : IsOfPart (member_at number).result
+pub record Opens (allow : AllowList) (number : ℕ) : Type 0 where
+  pub is : is_open_at allow number ≡ true
+  pub params : list_all is_open (member_in allow number).params ≡ true
+  pub result : IsOfPart (member_in allow number).result
 
-opens : (number : ℕ) → is_open_at number ≡ true → Opens number
-opens number e =
-    let first = and_parts (is_built_class (member_at number).owner) (list_all is_open (member_at number).params && is_open (member_at number).result) e in
-    let second = and_parts (list_all is_open (member_at number).params) (is_open (member_at number).result) first.1 in
+opens : (allow : AllowList) (number : ℕ) → is_open_at allow number ≡ true → Opens allow number
+opens allow number e =
+    let first = and_parts (is_built_class (member_in allow number).owner) (list_all is_open (member_in allow number).params && is_open (member_in allow number).result) e in
+    let second = and_parts (list_all is_open (member_in allow number).params) (is_open (member_in allow number).result) first.1 in
     record {
       is = e;
       params = second.0;
-      result = open_part (member_at number).result second.1;
+      result = open_part (member_in allow number).result second.1;
     }
 
 -- ---- the member that is wanted
@@ -139,10 +139,10 @@ kind_is kind.Field kind.Field e = refl
 kind_is a b e = cc
 
 -- what is wanted was found, and is open
-pub record Wants (sort : MemberKind) (found : Option ℕ) (number : ℕ) : Type 0 where
+pub record Wants (allow : AllowList) (sort : MemberKind) (found : Option ℕ) (number : ℕ) : Type 0 where
   pub is : found ≡ Some number
-  pub kind : (member_at number).kind ≡ sort
-  pub opens : Opens number
+  pub kind : (member_in allow number).kind ≡ sort
+  pub opens : Opens allow number
 
 record BothHold (c d : Bool) (m n : ℕ) : Type 0 where
   first : c ≡ true
@@ -154,18 +154,18 @@ both_hold true true a b at m n e = record { first = refl; second = refl; same = 
 both_hold true false a b at m n e = cc
 both_hold false d a b at m n e = cc
 
-pub wants : (sort : MemberKind) (at : ℕ) (found : Option ℕ) (number : ℕ) → wanted sort at found ≡ Ok number → Wants sort found number
-wants sort at None number e = cc
-wants sort at (Some m) number e =
-    let h = both_hold (is_kind sort (member_at m).kind) (is_open_at m) _ _ at m number e in
-    subst (Wants sort (Some m)) h.same (record { is = refl; kind = kind_is sort (member_at m).kind h.first; opens = opens m h.second })
+pub wants : (allow : AllowList) (sort : MemberKind) (at : ℕ) (found : Option ℕ) (number : ℕ) → wanted allow sort at found ≡ Ok number → Wants allow sort found number
+wants allow sort at None number e = cc
+wants allow sort at (Some m) number e =
+    let h = both_hold (is_kind sort (member_in allow m).kind) (is_open_at allow m) _ _ at m number e in
+    subst (Wants allow sort (Some m)) h.same (record { is = refl; kind = kind_is sort (member_in allow m).kind h.first; opens = opens allow m h.second })
 
 -- ---- the member that is found
 
 pub record Allowed (allow : AllowList) (arity number : ℕ) : Type 0 where
   pub allowed : flag allow.members number ≡ true
-  pub is : slice_get catalogue number ≡ Some (member_at number)
-  pub takes : length (member_at number).params ≡ arity
+  pub is : slice_get (members_in allow) number ≡ Some (member_in allow number)
+  pub takes : length (member_in allow number).params ≡ arity
 
 -- a member that is open is built: each row of the catalogue is tested
 abbrev open_and_built : ℕ → MemberType → Bool
@@ -175,15 +175,15 @@ all_built : holds_of_all open_and_built ≡ true
 unfolding catalogue container_ranges out-Ty denote.Hole.Carrier.out
 all_built = refl
 
-open_built : (number : ℕ) → slice_get catalogue number ≡ Some (member_at number) → Opens number → is_built number ≡ true
-open_built number is x =
-    of_built number ∙ then_holds (is_shallow_member (member_at number)) (built_range number) (holds_at open_and_built number (member_at number) all_built is) (member_shallow (member_at number) x.is)
+open_built : (allow : AllowList) (number : ℕ) → slice_get (members_in allow) number ≡ Some (member_in allow number) → Opens allow number → is_built number ≡ true
+open_built allow number is x =
+    of_built number ∙ then_holds (is_shallow_member (member_in allow number)) (built_range number) (holds_at open_and_built number (member_in allow number) all_built is) (member_shallow (member_in allow number) x.is)
 
-allowed_by : (allow : AllowList) (arity number : ℕ) (m : MemberType) → flag allow.members number ≡ true → slice_get catalogue number ≡ Some m
+allowed_by : (allow : AllowList) (arity number : ℕ) (m : MemberType) → flag allow.members number ≡ true → slice_get (members_in allow) number ≡ Some m
     → length m.params ≡ arity
     → Allowed allow arity number
 allowed_by allow arity number m a is l =
-    let same : member_at number ≡ m = get_or_from_slice_get catalogue number m (constructor 0 []) is in
+    let same : member_in allow number ≡ m = get_or_from_slice_get (members_in allow) number m (constructor 0 []) is in
     record { allowed = a; is = is ∙ ap Some (sym same); takes = ap (λ (m : MemberType). length m.params) same ∙ l }
 
 pub found_allowed : (allow : AllowList) (class : ℕ) (name : List ℕ) (arity number : ℕ) → member_of allow class name arity ≡ Some number
@@ -241,20 +241,20 @@ getter_allowed allow class name number e = pick (either_found _ _ number e)
 -- ---- the class that has the member
 
 -- the table keeps a value of the class at which a member is found at the class that has it
-abbrev pub Receives : ℕ → ℕ → Type 0
-Receives class number = IsGiven cast.Keep (ty.Class class) (ty.Class (member_at number).owner)
+abbrev pub Receives : AllowList → ℕ → ℕ → Type 0
+Receives allow class number = IsGiven cast.Keep (ty.Class class) (ty.Class (member_in allow number).owner)
 
-pub found_receives : (allow : AllowList) (class : ℕ) (name : List ℕ) (arity number : ℕ) → member_of allow class name arity ≡ Some number → Receives class number
+pub found_receives : (allow : AllowList) (class : ℕ) (name : List ℕ) (arity number : ℕ) → member_of allow class name arity ≡ Some number → Receives allow class number
 found_receives allow class name arity number e =
     let found = found_above allow class name arity number e in
-    let same : member_at number ≡ found.0 = get_or_from_slice_get catalogue number found.0 (constructor 0 []) found.1 in
-    let above : class_is_below class (member_at number).owner ≡ true = subst (λ (m : MemberType). class_is_below class m.owner ≡ true) (sym same) found.2 in
-    record { written = false; is = sym (class_up class_is_below class (member_at number).owner false above) }
+    let same : member_in allow number ≡ found.0 = get_or_from_slice_get (members_in allow) number found.0 (constructor 0 []) found.1 in
+    let above : class_is_below class (member_in allow number).owner ≡ true = subst (λ (m : MemberType). class_is_below class m.owner ≡ true) (sym same) found.2 in
+    record { written = false; is = sym (class_up class_is_below class (member_in allow number).owner false above) }
 
-pub getter_receives : (allow : AllowList) (class : ℕ) (name : List ℕ) (number : ℕ) → getter allow class name ≡ Some number → Receives class number
+pub getter_receives : (allow : AllowList) (class : ℕ) (name : List ℕ) (number : ℕ) → getter allow class name ≡ Some number → Receives allow class number
 getter_receives allow class name number e = pick (either_found _ _ number e)
   where
-    pick : (member_of allow class (codes "get" ++ capital name) 0 ≡ Some number) ⊎ (member_of allow class (codes "is" ++ capital name) 0 ≡ Some number) → Receives class number
+    pick : (member_of allow class (codes "get" ++ capital name) 0 ≡ Some number) ⊎ (member_of allow class (codes "is" ++ capital name) 0 ≡ Some number) → Receives allow class number
     pick (inl e) = found_receives allow class (codes "get" ++ capital name) 0 number e
     pick (inr e) = found_receives allow class (codes "is" ++ capital name) 0 number e
 
@@ -314,28 +314,28 @@ module _ (funs : Script) (g : Scope) where
 
   -- a member that may be called
   pub record Callable (sort : MemberKind) (arity number : ℕ) : Type 0 where
-    pub kind : (member_at number).kind ≡ sort
+    pub kind : (member_in funs.allowed number).kind ≡ sort
     pub built : is_built number ≡ true
-    pub opens : Opens number
+    pub opens : Opens funs.allowed number
     pub found : Allowed funs.allowed arity number
 
-  pub callable : (sort : MemberKind) (at arity : ℕ) (found : Option ℕ) (number : ℕ) → wanted sort at found ≡ Ok number
+  pub callable : (sort : MemberKind) (at arity : ℕ) (found : Option ℕ) (number : ℕ) → wanted funs.allowed sort at found ≡ Ok number
       → (found ≡ Some number → Allowed funs.allowed arity number)
       → Callable sort arity number
   callable sort at arity found number e there =
-      let w = wants sort at found number e in
+      let w = wants funs.allowed sort at found number e in
       let a = there w.is in
-      record { kind = w.kind; built = open_built number a.is w.opens; opens = w.opens; found = a }
+      record { kind = w.kind; built = open_built funs.allowed number a.is w.opens; opens = w.opens; found = a }
 
-  pub given_to : (sort : MemberKind) (number : ℕ) (xs : List Part) (ys : List Typed) → Callable sort (length xs) number → member_arguments number xs ≡ Ok ys
+  pub given_to : (sort : MemberKind) (number : ℕ) (xs : List Part) (ys : List Typed) → Callable sort (length xs) number → member_arguments funs.allowed number xs ≡ Ok ys
       → AllParts funs g xs
-      → Given (member_at number).params ys
-  given_to sort number xs ys c e h = cast_all_are (member_at number).params xs ys c.opens.params c.found.takes e h
+      → Given (member_in funs.allowed number).params ys
+  given_to sort number xs ys c e h = cast_all_are (member_in funs.allowed number).params xs ys c.opens.params c.found.takes e h
 
-  pub agrees_by : (sort : MemberKind) (arity number : ℕ) (ofs : List Ty) → Callable sort arity number → TakesTypes sort (member_at number).params ofs
-      → ReceiverIsOf sort (member_at number).owner ofs → MemberAgrees funs sort (member number) ofs (result number)
+  pub agrees_by : (sort : MemberKind) (arity number : ℕ) (ofs : List Ty) → Callable sort arity number → TakesTypes sort (member_in funs.allowed number).params ofs
+      → ReceiverIsOf sort (member_in funs.allowed number).owner ofs → MemberAgrees funs sort (member funs.allowed number) ofs (result funs.allowed number)
   agrees_by sort arity number ofs c takes receiver = record {
-    member = member_at number;
+    member = member_in funs.allowed number;
     is = c.found.is;
     sort = c.kind;
     text = refl;
@@ -350,28 +350,28 @@ module _ (funs : Script) (g : Scope) where
   class_is_reference x c is = reference_by (type_of_part x) (Ty-F.Class c) is tt
 
   -- a call on a value
-  pub instance_is : (access : Access) (at class number : ℕ) (x y : Part) (xs : List Part) → Callable kind.Instance (length xs) number → out-Ty (type_of_part x) ≡ Ty-F.Class class → Receives class number
-      → instance_call access at number x xs ≡ Ok y
+  pub instance_is : (access : Access) (at class number : ℕ) (x y : Part) (xs : List Part) → Callable kind.Instance (length xs) number → out-Ty (type_of_part x) ≡ Ty-F.Class class → Receives funs.allowed class number
+      → instance_call funs.allowed access at number x xs ≡ Ok y
       → PartIs funs g x → AllParts funs g xs → PartIs funs g y
   instance_is access at class number x y xs c is receives e hx h =
-      let a = passed (member_arguments number xs) (λ ys. nullable access at number (instance_node access at number (x.typed ∷ ys))) y e in
+      let a = passed (member_arguments funs.allowed number xs) (λ ys. nullable funs.allowed access at number (instance_node funs.allowed access at number (x.typed ∷ ys))) y e in
       let given = given_to kind.Instance number xs a.given c a.first h in
-      let whole = not_nullable (guards access && gives_primitive number) _ at (instance_node access at number (x.typed ∷ a.given)) y a.then' in
+      let whole = not_nullable (guards access && gives_primitive funs.allowed number) _ at (instance_node funs.allowed access at number (x.typed ∷ a.given)) y a.then' in
       let agrees = agrees_by kind.Instance (length xs) number (type_of (expr_of x.typed) ∷ types_of (exprs_of (map expr_of a.given))) c
       (subst IsReference (sym hx.typed.is) (class_is_reference x class is), given.types)
-      (subst (λ of. IsGiven cast.Keep of (ty.Class (member_at number).owner)) (sym (class_by (type_of_part x) class is) ∙ sym hx.typed.is) receives) in
+      (subst (λ of. IsGiven cast.Keep of (ty.Class (member_in funs.allowed number).owner)) (sym (class_by (type_of_part x) class is) ∙ sym hx.typed.is) receives) in
       subst (PartIs funs g) whole.same (pick access a.given whole.holds given agrees)
     where
-      pick : (access : Access) (ys : List Typed) → (guards access && gives_primitive number) ≡ false → Given (member_at number).params ys
-          → MemberAgrees funs kind.Instance (member number) (type_of (expr_of x.typed) ∷ types_of (exprs_of (map expr_of ys))) (result number)
-          → PartIs funs g (instance_node access at number (x.typed ∷ ys))
+      pick : (access : Access) (ys : List Typed) → (guards access && gives_primitive funs.allowed number) ≡ false → Given (member_in funs.allowed number).params ys
+          → MemberAgrees funs kind.Instance (member funs.allowed number) (type_of (expr_of x.typed) ∷ types_of (exprs_of (map expr_of ys))) (result funs.allowed number)
+          → PartIs funs g (instance_node funs.allowed access at number (x.typed ∷ ys))
       pick through.Plain ys whole given agrees =
-          part_of funs g at f.Deed _ (result number) c.opens.result
-          (node_is funs g at (result number) _ _ (applied_is at (result number) (o.Instance (member number)) (x.typed ∷ ys)) refl ((hx.typed.agrees, given.agree), agrees))
+          part_of funs g at f.Deed _ (result funs.allowed number) c.opens.result
+          (node_is funs g at (result funs.allowed number) _ _ (applied_is at (result funs.allowed number) (o.Instance (member funs.allowed number)) (x.typed ∷ ys)) refl ((hx.typed.agrees, given.agree), agrees))
       pick through.Guarded ys whole given agrees =
-          part_of funs g at f.Deed _ (result number) c.opens.result
-          (node_is funs g at (result number) _ _ (guarded_is at (result number) (o.Instance (member number)) (x.typed ∷ ys)) refl
-          (hx.typed.agrees, given.agree, record { sort = tt; agrees = agrees; whole = no_number (result number) whole }))
+          part_of funs g at f.Deed _ (result funs.allowed number) c.opens.result
+          (node_is funs g at (result funs.allowed number) _ _ (guarded_is at (result funs.allowed number) (o.Instance (member funs.allowed number)) (x.typed ∷ ys)) refl
+          (hx.typed.agrees, given.agree, record { sort = tt; agrees = agrees; whole = no_number (result funs.allowed number) whole }))
 
   -- ---- what is found when the script runs
 
@@ -423,8 +423,8 @@ module _ (funs : Script) (g : Scope) where
       → called_layer funs.allowed l access at name x xs ≡ Ok y
       → PartIs funs g x → AllParts funs g xs → PartIs funs g y
   method_by (Ty-F.Class c) access at name x y xs is e hx h =
-      let a = passed (wanted kind.Instance at (member_of funs.allowed c name (length xs))) (λ number. instance_call access at number x xs) y e in
-      let found = (wants kind.Instance at (member_of funs.allowed c name (length xs)) a.given a.first).is in
+      let a = passed (wanted funs.allowed kind.Instance at (member_of funs.allowed c name (length xs))) (λ number. instance_call funs.allowed access at number x xs) y e in
+      let found = (wants funs.allowed kind.Instance at (member_of funs.allowed c name (length xs)) a.given a.first).is in
       instance_is access at c a.given x y xs (callable kind.Instance at (length xs) _ a.given a.first (found_allowed funs.allowed c name (length xs) a.given)) is
       (found_receives funs.allowed c name (length xs) a.given found) a.then' hx h
   method_by Ty-F.Def access at name x y xs is e hx h =
@@ -443,31 +443,31 @@ module _ (funs : Script) (g : Scope) where
       → read_named funs.allowed access at name c x ≡ Ok y
       → PartIs funs g x → PartIs funs g y
   named_read c access at name x y is e hx =
-      let a = passed (wanted kind.Instance at (getter funs.allowed c name)) (λ number. bind (instance_call access at number x []) (λ y. accepted (plainly y))) y e in
-      let b = passed (instance_call access at a.given x []) (λ y. accepted (plainly y)) y a.then' in
-      let found = (wants kind.Instance at (getter funs.allowed c name) a.given a.first).is in
+      let a = passed (wanted funs.allowed kind.Instance at (getter funs.allowed c name)) (λ number. bind (instance_call funs.allowed access at number x []) (λ y. accepted (plainly y))) y e in
+      let b = passed (instance_call funs.allowed access at a.given x []) (λ y. accepted (plainly y)) y a.then' in
+      let found = (wants funs.allowed kind.Instance at (getter funs.allowed c name) a.given a.first).is in
       let called = instance_is access at c a.given x b.given [] (callable kind.Instance at 0 _ a.given a.first (getter_allowed funs.allowed c name a.given)) is
       (getter_receives funs.allowed c name a.given found) b.first hx tt in
       settled (PartIs funs g) (plainly b.given) y b.then' (record { typed = called.typed; built = called.built })
 
   -- a call on a class, `new` and a field
-  applied_part : (form : Form) (operation : Operation) (at number : ℕ) (ys : List Typed) → Opens number
-      → Given (member_at number).params ys
-      → Applies funs operation (types_of (exprs_of (map expr_of ys))) (result number)
-      → PartIs funs g (part at form (applied at (result number) operation ys))
+  applied_part : (form : Form) (operation : Operation) (at number : ℕ) (ys : List Typed) → Opens funs.allowed number
+      → Given (member_in funs.allowed number).params ys
+      → Applies funs operation (types_of (exprs_of (map expr_of ys))) (result funs.allowed number)
+      → PartIs funs g (part at form (applied at (result funs.allowed number) operation ys))
   applied_part form operation at number ys opens given applies =
-      part_of funs g at form _ (result number) opens.result
-      (node_is funs g at (result number) _ _ (applied_is at (result number) operation ys) refl (given.agree, applies))
+      part_of funs g at form _ (result funs.allowed number) opens.result
+      (node_is funs g at (result funs.allowed number) _ _ (applied_is at (result funs.allowed number) operation ys) refl (given.agree, applies))
 
   static_by : (l : Ty-F Ty) (access : Access) (at : ℕ) (name : List ℕ) (y : Part) (xs : List Part) → static_layer funs.allowed l access at name xs ≡ Ok y
       → AllParts funs g xs → PartIs funs g y
   static_by (Ty-F.Class class) access at name y xs e h =
-      let a = passed (wanted kind.Static at (member_of funs.allowed class name (length xs))) (λ number. static_call access at number xs) y e in
+      let a = passed (wanted funs.allowed kind.Static at (member_of funs.allowed class name (length xs))) (λ number. static_call funs.allowed access at number xs) y e in
       let c = callable kind.Static at (length xs) _ a.given a.first (found_allowed funs.allowed class name (length xs) a.given) in
-      let b = passed (member_arguments a.given xs) (λ ys. nullable access at a.given (static_node at a.given ys)) y a.then' in
+      let b = passed (member_arguments funs.allowed a.given xs) (λ ys. nullable funs.allowed access at a.given (static_node funs.allowed at a.given ys)) y a.then' in
       let given = given_to kind.Static a.given xs b.given c b.first h in
-      let whole = not_nullable (guards access && gives_primitive a.given) _ at (static_node at a.given b.given) y b.then' in
-      subst (PartIs funs g) whole.same (applied_part f.Deed (o.Static (member a.given)) at a.given b.given c.opens given (agrees_by kind.Static (length xs) a.given _ c given.types tt))
+      let whole = not_nullable (guards access && gives_primitive funs.allowed a.given) _ at (static_node funs.allowed at a.given b.given) y b.then' in
+      subst (PartIs funs g) whole.same (applied_part f.Deed (o.Static (member funs.allowed a.given)) at a.given b.given c.opens given (agrees_by kind.Static (length xs) a.given _ c given.types tt))
   static_by Ty-F.Def access at name y xs e h = cc
   static_by Ty-F.Void access at name y xs e h = cc
   static_by Ty-F.Null access at name y xs e h = cc
@@ -480,11 +480,11 @@ module _ (funs : Script) (g : Scope) where
 
   new_by : (l : Ty-F Ty) (at : ℕ) (y : Part) (xs : List Part) → new_layer funs.allowed l at xs ≡ Ok y → AllParts funs g xs → PartIs funs g y
   new_by (Ty-F.Class class) at y xs e h =
-      let a = passed (wanted kind.Constructor at (own_member funs.allowed class [] (length xs))) (λ number. constructed at number xs) y e in
+      let a = passed (wanted funs.allowed kind.Constructor at (own_member funs.allowed class [] (length xs))) (λ number. constructed funs.allowed at number xs) y e in
       let c = callable kind.Constructor at (length xs) _ a.given a.first (own_allowed funs.allowed class [] (length xs) a.given) in
-      let b = passed (member_arguments a.given xs) _ y a.then' in
+      let b = passed (member_arguments funs.allowed a.given xs) _ y a.then' in
       let given = given_to kind.Constructor a.given xs b.given c b.first h in
-      settled (PartIs funs g) _ y b.then' (applied_part f.Deed (o.Constructor (member a.given)) at a.given b.given c.opens given (agrees_by kind.Constructor (length xs) a.given _ c given.types tt))
+      settled (PartIs funs g) _ y b.then' (applied_part f.Deed (o.Constructor (member funs.allowed a.given)) at a.given b.given c.opens given (agrees_by kind.Constructor (length xs) a.given _ c given.types tt))
   new_by Ty-F.Def at y xs e h = cc
   new_by Ty-F.Void at y xs e h = cc
   new_by Ty-F.Null at y xs e h = cc
@@ -496,11 +496,11 @@ module _ (funs : Script) (g : Scope) where
 
   field_by : (l : Ty-F Ty) (access : Access) (at : ℕ) (name : List ℕ) (y : Part) → field_layer funs.allowed l access at name ≡ Ok y → PartIs funs g y
   field_by (Ty-F.Class class) access at name y e =
-      let a = passed (wanted kind.Field at (member_of funs.allowed class name 0)) (λ number. nullable access at number (field_node at number)) y e in
+      let a = passed (wanted funs.allowed kind.Field at (member_of funs.allowed class name 0)) (λ number. nullable funs.allowed access at number (field_node funs.allowed at number)) y e in
       let c = callable kind.Field at 0 _ a.given a.first (found_allowed funs.allowed class name 0 a.given) in
-      let given = given_to kind.Field a.given [] [] c (no_arguments (member_at a.given).params) tt in
-      let whole = not_nullable (guards access && gives_primitive a.given) _ at (field_node at a.given) y a.then' in
-      subst (PartIs funs g) whole.same (applied_part f.Other (o.Field (member a.given)) at a.given [] c.opens given (agrees_by kind.Field 0 a.given _ c given.types tt))
+      let given = given_to kind.Field a.given [] [] c (no_arguments (member_in funs.allowed a.given).params) tt in
+      let whole = not_nullable (guards access && gives_primitive funs.allowed a.given) _ at (field_node funs.allowed at a.given) y a.then' in
+      subst (PartIs funs g) whole.same (applied_part f.Other (o.Field (member funs.allowed a.given)) at a.given [] c.opens given (agrees_by kind.Field 0 a.given _ c given.types tt))
     where
       no_arguments : (ts : List Ty) → cast_all ts [] ≡ Ok []
       no_arguments [] = refl

@@ -1,6 +1,5 @@
 -- What typing gives is well formed, and each of its statements is reached.
 use Rattle.std.specs.Prelude.{◌≡◌, ◌≢◌, ℕ, List, [], ◌∷◌, Ok}
-use Rattle.object_heap.specs.Fits.{Rules, Every}
 use Rattle.run_state.specs.World.{Limits}
 use Rattle.pl_tree.specs.declared.tree.Tree.{Tree}
 use Rattle.typed_tree.specs.declared.program.Named.{Named}
@@ -9,6 +8,7 @@ use Rattle.typing_rules.specs.declared.header.ContextTypes.{ContextTypes}
 use Rattle.allowlist.specs.Allow.{AllowList}
 use Rattle.typing_rules.specs.Typing.{typing_of}
 use Rattle.source_typing.specs.Meaning.{meaning}
+use Rattle.source_typing.specs.ProgramRules.{rules_of}
 use Rattle.source_typing.specs.Programs.{program_of}
 use Rattle.source_typing.specs.Tree as source
 use Rattle.pl_types.specs.declared.ty.Ty.{Ty, out-Ty}
@@ -57,10 +57,9 @@ TypingReaches = (allow : AllowList) (context : ContextTypes) (tree : Tree) (p : 
 abbrev pub beside : Program → source.Program → source.Programs
 beside p prelude = record { script = program_of p; prelude = prelude }
 
--- In a program that typing gives, beside a well-formed prelude, each value is of its type, at every bound, where the store fits by the
--- rules of a program.
+-- In a program that typing gives, beside a well-formed prelude, each value is of its type, at every bound, where the store fits the two.
 abbrev pub TypingKeepsTypes : Type 0
 TypingKeepsTypes =
     (allow : AllowList) (context : ContextTypes) (tree : Tree) (p : Program) → IsContext context → typing_of allow context tree ≡ Ok p
-    → (prelude : source.Program) (limits : Limits) → limits.ground.allowed ≡ allow → WellFormed (known limits.ground.prelude_allowed prelude) → (rules : Rules) (bound : ℕ) → rules.typed ≡ Every
-    → MeaningTyped rules (beside p prelude) limits (meaning (beside p prelude) limits bound)
+    → (prelude : source.Program) (limits : Limits) → limits.ground.allowed ≡ allow → WellFormed (known limits.ground.prelude_allowed prelude) → (bound : ℕ)
+    → MeaningTyped (rules_of (beside p prelude)) (beside p prelude) limits (meaning (beside p prelude) limits bound)

@@ -7,7 +7,7 @@ pub fn typed_programs_are_well_formed()
     ensures reached { TypingReaches }
 {}
 
-/// In a program that typing gives each value is of its type: from a store that fits and names with values of their types, an expression
+/// In a program that typing gives each value is of its type: from a store that fits it and names with values of their types, an expression
 /// comes to a value of its static type in the store that it leaves, and a statement keeps the types of the names.
 pub fn typed_programs_keep_types()
     ensures each { TypingKeepsTypes }

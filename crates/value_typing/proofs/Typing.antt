@@ -1,5 +1,5 @@
 -- Values stay of their types, and a value of a class is of each class above it.
-use Rattle.std.proofs.Common.{◌≡◌, ℕ, ◌==◌, ◌||◌, Bool, true, false, Option, Some, None, List, [], ◌∷◌, ◌++◌, refl, sym, ap, ◌∙◌, subst, slice_get}
+use Rattle.std.proofs.Common.{◌≡◌, ℕ, ◌==◌, ◌||◌, Bool, true, false, Option, Some, None, List, [], ◌∷◌, refl, sym, ap, ◌∙◌, subst, slice_get}
 use Rattle.std.proofs.lemmas.Bool.{and_parts, and_from, eqb-true}
 use Rattle.pl_types.specs.declared.classes.TheConstants.{OBJECT, BYTE, SHORT, INTEGER, LONG, CHARACTER, BOOLEAN, STRING}
 use Rattle.pl_types.specs.declared.ty.Ty.{Ty, out-Ty}
@@ -10,11 +10,12 @@ use Rattle.object_values.specs.declared.value.Value.{Value}
 use Rattle.object_values.specs.declared.value.Value.TheVariants as v
 use Rattle.object_heap.specs.Fits.{kinds, passes, class_is_of, class_of_kind, kind_is_of, value_is_of, has_layer, Every}
 use Rattle.object_heap.specs.Objects.{Kind}
-use Rattle.object_heap.proofs.KindLemmas.{Follows, follows_more, is_element_more}
+use Rattle.object_heap.proofs.KindLemmas.{Follows, is_element_more}
+use Rattle.container_calls.proofs.There.{follows}
 use Rattle.value_typing.specs.Typing.{is_typed_layer, is_typed, are_typed}
 use Rattle.value_typing.specs.Laws.{TypesStay, AllTypesStay, ClassesWiden, takes_null_layer, NullIsTyped}
 
--- ---- as objects are added
+-- ---- as objects are added and interfaces are taken
 
 layer_stays : (ks more : List Kind) → Follows ks more → (of : Ty) (value : Value) (l : Ty-F Ty) → out-Ty of ≡ l → is_typed_layer ks l value ≡ true → is_typed_layer more l value ≡ true
 layer_stays ks more f of value Ty-F.Void e h = refl
@@ -27,9 +28,7 @@ layer_stays ks more f of value (Ty-F.Array elem) e h =
     ap (λ l. has_layer more l value) (sym e) ∙ is_element_more ks more f Every of value (ap (λ l. has_layer ks l value) e ∙ h)
 
 pub types_stay : TypesStay
-types_stay before after of value there h =
-    subst (λ ks. is_typed_layer ks (out-Ty of) value ≡ true) (sym there.1)
-    (layer_stays (kinds before) (kinds before ++ there.0) (follows_more (kinds before) there.0) of value (out-Ty of) refl h)
+types_stay before after of value there h = layer_stays (kinds before) (kinds after) (follows (kinds before) (kinds after) there) of value (out-Ty of) refl h
 
 pub all_types_stay : AllTypesStay
 all_types_stay before after [] [] there h = refl

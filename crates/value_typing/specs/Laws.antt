@@ -39,7 +39,7 @@ StoresBegin = (objects : List Object) → StillThere objects objects
 abbrev pub StoresGoOn : Type 0
 StoresGoOn = (before between after : List Object) → StillThere before between → StillThere between after → StillThere before after
 
--- A value stays of its type as a run adds objects and changes what they hold.
+-- A value stays of its type as a run adds objects, changes what they hold, and lets function values take interfaces.
 abbrev pub TypesStay : Type 0
 TypesStay = (before after : List Object) (of : Ty) (value : Value) → StillThere before after → is_typed before of value ≡ true → is_typed after of value ≡ true
 

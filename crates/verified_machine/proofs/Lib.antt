@@ -1,9 +1,9 @@
 mod Resting
 mod Outcomes
+mod Ready
 pub mod Finishing
 pub mod Fitted
 -- Lemmas of the libraries below, passed on.
 pub use Rattle.machine.proofs.Steps
 pub use Rattle.machine.proofs.Turning
 pub use Rattle.machine.proofs.Words
-pub use Rattle.verifier_soundness.proofs.Beside

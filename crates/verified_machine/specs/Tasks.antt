@@ -3,106 +3,112 @@ use Rattle.std.specs.List.{list_all}
 use Rattle.std.specs.Prelude.{ℕ, ◌+◌, ◌-◌, ◌^◌, ◌<◌, Bool, true, false, List, Option, Some, None, ◌≡◌, option_map}
 use Rattle.object_heap.specs.declared.outcome.Which.{Which}
 use Rattle.object_heap.specs.declared.outcome.Which.TheVariants as which
+use Rattle.object_values.specs.declared.object.Owner.{Owner}
 use Rattle.pl_code.specs.declared.code.FunCode.{FunCode}
-use Rattle.allowlist.specs.Allow.{AllowList, flag}
-use Rattle.verifier.specs.Shaped.{IsWellShapedCode}
-use Rattle.verifier.specs.Verified.{CodeUnder, FrameWords}
+use Rattle.allowlist.specs.Allow.{flag}
+use Rattle.verifier.specs.Verified.{CodeUnder, IsSound, FrameWords}
 use Rattle.machine.specs.Rooms.{FitsAtStart}
 use Rattle.machine.specs.Sparing.{Spares}
-use Rattle.machine.specs.Links.{Executable}
+use Rattle.machine.specs.Code.{TextCode}
 use Rattle.run_state.specs.World.{Limits, Limit, Loop, Depth, Ticks, Room, End, Result, Uncaught, Limited}
 use Rattle.code_meaning.specs.declared.word.Word.{Word}
-use Rattle.code_meaning.specs.Machine.{Config, Next, Goes, Ends, Stuck, after}
+use Rattle.code_meaning.specs.Machine.{Codes, Config, Next, Goes, Ends, Stuck, after}
 use Rattle.task_core.specs.declared.task.Turn.{Turn}
 use Rattle.task_core.specs.declared.task.Turn.TheVariants as turn
 use Rattle.machine.specs.declared.activation.RunOutcome.{RunOutcome}
 use Rattle.machine.specs.declared.configuration.RunEnd as held
 use Rattle.machine.specs.declared.configuration.RunEnd.TheVariants as end
-use Rattle.machine.specs.Seen.{limits_of, codes_alone}
+use Rattle.machine.specs.Seen.{Executable, codes_in, limits_in, text_of}
 use Rattle.machine.specs.Runs.{steps_taken}
 use Rattle.machine.specs.Activations.{Activation, counted}
-use Rattle.verifier_soundness.specs.Rows.{HaveRows}
-use Rattle.verifier_soundness.specs.Fits.{kind_of, main_result, FitsNext}
+use Rattle.verifier_soundness.specs.Fits.{kind_of, main_result, AreWellShaped, FitsNext}
 use Rattle.verifier_soundness.specs.Bounds.{most_steps}
+use Rattle.verifier_soundness.specs.Laws.{AllHaveRows}
 
--- code that is ready to run, and the list by which it was verified
-abbrev pub code_under : Executable → CodeUnder
-code_under e = record { code = e.code; allow = e.allow }
+-- ---- what is ready to run
+
+-- the code of a text, and the list by which it was verified
+abbrev pub code_under : TextCode → CodeUnder
+code_under t = record { code = t.code; allow = t.allow }
+
+-- A text's code that was made ready once, for all that run beside it, and how many words there is memory for in each frame of it.
+pub record ReadyText : Type 0 where
+  pub text : TextCode
+  pub frame : ℕ
+
+-- the code of each text breaks nowhere under its list, and no frame of it has more words than there is memory for
+abbrev pub IsReady : Executable → Type 0
+IsReady e = (text : Owner) → IsSound (code_under (text_of e text)) × FrameWords e.frame (code_under (text_of e text))
 
 -- ---- which activations are runs of verified code
 
--- The code is well shaped under a list, by which members are called, and its instructions have rows under it; where the run stands fits, and 64 bits
--- count its steps.
-pub record Keeps (allow : AllowList) (code : List FunCode) (limits : Limits) (steps : ℕ) (n : Next) : Type 0 where
-  pub well : IsWellShapedCode allow code
-  pub under : limits.ground.allowed ≡ allow
-  pub rows : HaveRows allow code
-  pub fits : FitsNext allow code limits n
+-- The code of each text is well shaped under its list, and its instructions have rows under it; where the run stands fits, and 64 bits count
+-- its steps.
+pub record Keeps (codes : Codes) (limits : Limits) (steps : ℕ) (n : Next) : Type 0 where
+  pub well : AreWellShaped codes limits
+  pub rows : AllHaveRows codes limits
+  pub fits : FitsNext codes limits n
   pub counts : steps < 2 ^ 64
 
--- A frame of code has so many words at most; after want of memory nothing is known.
-abbrev pub HeldFrom : CodeUnder → ℕ → Option Next → Type 0
-HeldFrom c frame None = Unit {0}
-HeldFrom c frame (Some n) = FrameWords frame c
+-- after want of memory nothing is known
+abbrev pub KeepsFrom : Codes → Limits → ℕ → Option Next → Type 0
+KeepsFrom codes limits steps None = Unit {0}
+KeepsFrom codes limits steps (Some n) = Keeps codes limits steps n
 
--- a frame of a run has so many words at most as there is memory for
-abbrev pub IsHeld : AllowList → Activation → Type 0
-IsHeld allow a = HeldFrom (record { code = record { functions = a.code }; allow = allow }) a.frame a.now
+abbrev pub IsVerified : Activation → Type 0
+IsVerified a = KeepsFrom (codes_in a.executable) (limits_in a.executable a.limits) a.steps a.now
+
+-- A frame of either text's code has so many words at most as there is memory for; after want of memory nothing is known.
+abbrev pub HeldFrom : Executable → Option Next → Type 0
+HeldFrom e None = Unit {0}
+HeldFrom e (Some n) = (text : Owner) → FrameWords e.frame (code_under (text_of e text))
+
+abbrev pub IsHeld : Activation → Type 0
+IsHeld a = HeldFrom a.executable a.now
 
 -- The next instructions, so many at most, take no memory, and what the limit of depth allows was taken at the start.
 pub record OnlySpares (q : ℕ) (a : Activation) : Type 0 where
   pub next : Next
   pub stands : a.now ≡ Some next
-  pub fits : FitsAtStart a.frame a.limits.depth
-  pub spares : (k : ℕ) (c : Config) → k < q → after (codes_alone a.code) (limits_of a.limits a.allow) k next ≡ Goes c → Spares (codes_alone a.code) a.allow c
+  pub fits : FitsAtStart a.executable.frame a.limits.depth
+  pub spares : (k : ℕ) (c : Config) → k < q → after (codes_in a.executable) (limits_in a.executable a.limits) k next ≡ Goes c
+      → Spares (codes_in a.executable) (limits_in a.executable a.limits) c
 
 -- The same of all instructions up to the end.
 pub record SparesMemory (a : Activation) : Type 0 where
   pub next : Next
   pub stands : a.now ≡ Some next
-  pub fits : FitsAtStart a.frame a.limits.depth
-  pub spares : (k : ℕ) (c : Config) → after (codes_alone a.code) (limits_of a.limits a.allow) k next ≡ Goes c → Spares (codes_alone a.code) a.allow c
+  pub fits : FitsAtStart a.executable.frame a.limits.depth
+  pub spares : (k : ℕ) (c : Config) → after (codes_in a.executable) (limits_in a.executable a.limits) k next ≡ Goes c
+      → Spares (codes_in a.executable) (limits_in a.executable a.limits) c
 
--- after want of memory nothing is known
-abbrev pub KeepsFrom : AllowList → List FunCode → Limits → ℕ → Option Next → Type 0
-KeepsFrom allow code limits steps None = Unit {0}
-KeepsFrom allow code limits steps (Some n) = Keeps allow code limits steps n
-
-abbrev pub IsVerified : AllowList → Activation → Type 0
-IsVerified allow a = KeepsFrom allow a.code (limits_of a.limits a.allow) a.steps a.now
-
--- a run of verified code, and the list under which the code was verified
-pub record RunUnder : Type 0 where
-  pub run : Activation
-  pub allow : AllowList
-
--- an end of a run of verified code: its result is what the code gives, and it is not stuck
+-- an end of a run of verified code: its result is what the script's code gives, and it is not stuck
 abbrev pub EndFits : List FunCode → held.RunEnd → Type 0
 EndFits code (end.Result result) = option_map kind_of result ≡ main_result code
-EndFits code (end.Thrown id) = Unit {0}
-EndFits code (end.Limit limit) = Unit {0}
+EndFits code (end.Thrown id place) = Unit {0}
+EndFits code (end.Limit limit place) = Unit {0}
 EndFits code end.Stuck = ⊥
 
--- what a run of verified code leaves: an end that fits, and members of the list alone were reached
-pub record LeavesFitting (r : RunUnder) (o : RunOutcome) : Type 0 where
-  pub end : EndFits r.run.code o.end
-  pub reached : list_all (flag r.allow.members) o.reached ≡ true
+-- what a run of verified code leaves: an end that fits, and members of the script's list alone were reached
+pub record LeavesFitting (a : Activation) (o : RunOutcome) : Type 0 where
+  pub end : EndFits a.executable.script.code.functions o.end
+  pub reached : list_all (flag a.executable.script.allow.members) o.reached ≡ true
 
 -- ---- what is left
 
 -- the bound within which a run of verified code ends
-abbrev pub most_left : List FunCode → Limits → Next → ℕ
-most_left code limits (Goes c) = most_steps code limits c.world.ticks
-most_left code limits (Ends r) = 0
-most_left code limits Stuck = 0
+abbrev pub most_left : Codes → Limits → Next → ℕ
+most_left codes limits (Goes c) = most_steps codes limits c.world.ticks
+most_left codes limits (Ends r) = 0
+most_left codes limits Stuck = 0
 
 -- The instructions that are left up to the end. After want of memory it never comes, and one is left for ever.
-abbrev pub rest_from : List FunCode → Limits → Option Next → ℕ
-rest_from code limits None = 1
-rest_from code limits (Some n) = steps_taken (codes_alone code) limits (most_left code limits n) n
+abbrev pub rest_from : Codes → Limits → Option Next → ℕ
+rest_from codes limits None = 1
+rest_from codes limits (Some n) = steps_taken codes limits (most_left codes limits n) n
 
 abbrev pub rest : Activation → ℕ
-rest a = rest_from a.code (limits_of a.limits a.allow) a.now
+rest a = rest_from (codes_in a.executable) (limits_in a.executable a.limits) a.now
 
 -- ---- what it comes to
 
@@ -115,8 +121,8 @@ which_of Room = which.Room
 -- what an end leaves of so many ticks, after so many steps
 abbrev pub outcome_of : ℕ → ℕ → End (Option Word) → RunOutcome
 outcome_of ticks steps (Result result w) = record { end = end.Result result; heap = w.store; ticks = ticks - w.ticks; steps = steps; reached = w.reached }
-outcome_of ticks steps (Uncaught id w) = record { end = end.Thrown id; heap = w.store; ticks = ticks - w.ticks; steps = steps; reached = w.reached }
-outcome_of ticks steps (Limited limit w) = record { end = end.Limit (which_of limit); heap = w.store; ticks = ticks - w.ticks; steps = steps; reached = w.reached }
+outcome_of ticks steps (Uncaught id place w) = record { end = end.Thrown id place; heap = w.store; ticks = ticks - w.ticks; steps = steps; reached = w.reached }
+outcome_of ticks steps (Limited limit place w) = record { end = end.Limit (which_of limit) place; heap = w.store; ticks = ticks - w.ticks; steps = steps; reached = w.reached }
 
 abbrev pub outcome_in : ℕ → ℕ → Next → Option RunOutcome
 outcome_in ticks steps (Goes c) = None
@@ -126,8 +132,8 @@ outcome_in ticks steps Stuck = None
 abbrev pub ending_from : Activation → Option Next → Option RunOutcome
 ending_from a None = None
 ending_from a (Some n) =
-    outcome_in a.limits.ticks (counted (a.steps + rest_from a.code (limits_of a.limits a.allow) (Some n)))
-    (after (codes_alone a.code) (limits_of a.limits a.allow) (most_left a.code (limits_of a.limits a.allow) n) n)
+    outcome_in a.limits.ticks (counted (a.steps + rest_from (codes_in a.executable) (limits_in a.executable a.limits) (Some n)))
+    (after (codes_in a.executable) (limits_in a.executable a.limits) (most_left (codes_in a.executable) (limits_in a.executable a.limits) n) n)
 
 -- what an activation comes to when it is run alone
 abbrev pub ending : Activation → Option RunOutcome

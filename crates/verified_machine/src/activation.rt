@@ -1,86 +1,29 @@
 //! A run of verified code, which takes turns and ends.
 ghost use Rattle.std.specs.Prelude.{◌≡◌, ◌≤◌, [], List, Some, IfOk, IfSome, IsOk, IsTrue, OnOk};
-ghost use Rattle.object_heap.specs.Fits.{Rules};
 ghost use Rattle.object_values.specs.declared.object.Object.{Object};
+ghost use Rattle.machine.specs.CodeRules.{rules_of_codes};
 ghost use Rattle.machine.specs.Fitting.{LeavesFit, NowFits};
 ghost use Rattle.code_meaning.specs.Machine.{start};
-ghost use Rattle.machine.specs.Seen.{limits_of, codes_alone};
+ghost use Rattle.machine.specs.Seen.{codes_in, limits_in};
 ghost use Rattle.machine.specs.Activations.{HasTurned, Leaves, Turned, is_over};
-ghost use Rattle.verifier.specs.Verified.{FrameWords};
 ghost use Rattle.verifier_soundness.specs.Rows.{HaveRows};
 ghost use Rattle.verifier_soundness.specs.Fits.{kinds_of, main_params};
 ghost use Rattle.verifier_soundness.specs.Bounds.{most_steps};
 ghost use Rattle.task_core.specs.Turns.{Turns};
-ghost use Rattle.verified_machine.specs.Tasks.{LeavesFitting, OnlySpares, SparesMemory, code_under, rest, ending, is_end};
+ghost use Rattle.verified_machine.specs.Tasks.{LeavesFitting, OnlySpares, SparesMemory, rest, ending, is_end};
 
-use allowlist::Allow;
+use crate::executable::VerifiedExecutable;
 use code_meaning::Word;
-use machine::{Activation, Executable, Finished, Limits, RunMemory, RunOutcome};
+use machine::{Activation, Finished, Limits, RunMemory, RunOutcome};
 use object_heap::Heap;
 use object_values::Elements;
-use pl_code::Code;
-use std::alloc::{AllocError, Global};
+use std::alloc::AllocError;
 use std::marker::Model;
 use task_core::{Task, Turn};
-use verifier::Verified;
-
-/// Verified code that is ready to run. There is memory in each frame of a run for as many words as the verifier has found.
-#[derive(Drop)]
-pub struct VerifiedExecutable {
-    executable: Executable,
-}
-
-impl Model for VerifiedExecutable {
-    ghost use Rattle.machine.specs.Links.{Executable};
-    ghost use Rattle.pl_types.specs.contracts.ty.Ty as ty;
-    ghost use Rattle.std.specs.Coded.{codes};
-    ghost use Rattle.verifier.specs.Verified.{FrameWords, IsSound};
-    ghost use Rattle.verified_machine.specs.Tasks.{code_under};
-
-    ghost Value = { Executable };
-
-    ghost coded = { Prim.hlevel (codes, ty.the_row.coded) };
-
-    ghost view = { λ v. v.executable };
-
-    ghost invariant = { λ v. IsSound (code_under v.executable) × FrameWords v.executable.frame (code_under v.executable) };
-}
-
-impl VerifiedExecutable {
-    /// # Errors
-    ///
-    /// Want of memory.
-    pub fn new(alloc: Global, verified: Verified) -> Result<VerifiedExecutable, AllocError>
-        ensures same { IfOk result (λ e. code_under e ≡ verified) }
-        // There is memory in each frame of a run for as many words as one has at most.
-        ensures frames { IfOk result (λ e. FrameWords e.frame (code_under e)) }
-    {
-        let frame = verified.frame_words();
-        let (code, allow) = verified.into_parts();
-        Ok(VerifiedExecutable {
-            executable: Executable::new(alloc, code, allow, frame)?,
-        })
-    }
-
-    /// The code.
-    pub fn code(&self) -> &Code
-        ensures { result.now ≡ self.now.code }
-    {
-        self.executable.code()
-    }
-
-    /// The members that it may call.
-    pub fn allow(&self) -> &Allow
-        ensures { result.now ≡ self.now.allow }
-    {
-        self.executable.allow()
-    }
-}
 
 /// A run of verified code. It is never stuck, and ends however its instructions are cut into turns.
 #[derive(Drop)]
 pub struct VerifiedActivation<'c> {
-    code: &'c VerifiedExecutable,
     run: Activation<'c>,
     done: bool,
 }
@@ -93,25 +36,25 @@ pub struct FinishedRun {
 }
 
 impl<'c> Model for VerifiedActivation<'c> {
-    ghost use Rattle.machine.specs.Activations.{is_over};
+    ghost use Rattle.machine.specs.Activations.{Activation, is_over};
     ghost use Rattle.pl_types.specs.contracts.ty.Ty as ty;
     ghost use Rattle.std.specs.Coded.{codes};
     ghost use Rattle.std.specs.Prelude.{◌≡◌};
-    ghost use Rattle.verified_machine.specs.Tasks.{IsHeld, IsVerified, RunUnder};
+    ghost use Rattle.verified_machine.specs.Tasks.{IsHeld, IsVerified};
 
-    ghost Value = { RunUnder };
+    ghost Value = { Activation };
 
     ghost coded = { Prim.hlevel (codes, ty.the_row.coded) };
 
-    ghost view = { λ a. record { run = a.run; allow = a.code.now.allow } };
+    ghost view = { λ a. a.run };
 
-    ghost invariant = { λ a. IsVerified a.code.now.allow a.run × IsHeld a.code.now.allow a.run × (a.done ≡ is_over a.run.now) };
+    ghost invariant = { λ a. IsVerified a.run × IsHeld a.run × (a.done ≡ is_over a.run.now) };
 }
 
 impl<'c> VerifiedActivation<'c> {
-    /// A run of function 0 of this code on these arguments, which are of the kinds of its parameters (`fit_main` tests it). Each
-    /// instruction of the code has a row (`have_rows` tests it). It calls the members of the list under which the code was verified,
-    /// and no others.
+    /// A run of function 0 of this code on these arguments, which are of the kinds of its parameters (`fit_main` tests it), beside the
+    /// prelude's code. Each instruction of the code has a row (`have_rows` tests it). It calls the members of the list under which the
+    /// code was verified, and no others.
     ///
     /// # Errors
     ///
@@ -122,10 +65,10 @@ impl<'c> VerifiedActivation<'c> {
         args: Elements<Word>,
         limits: Limits,
     ) -> Result<VerifiedActivation<'c>, AllocError>
-        requires rows { HaveRows code.now.allow code.now.code.functions }
-        requires args { kinds_of args ≡ main_params code.now.code.functions }
-        ensures started { IfOk result (λ a. a ≡ record { run = record { code = code.now.code.functions; limits = limits; allow = code.now.allow; frame = code.now.frame; now = Some (start (codes_alone code.now.code.functions) args (record { store = heap; ticks = limits.ticks; reached = [] })); steps = 0 }; allow = code.now.allow }) }
-        ensures bound { IfOk result (λ a. rest a.run ≤ most_steps code.now.code.functions (limits_of limits code.now.allow) limits.ticks) }
+        requires rows { HaveRows code.now.script.allow code.now.script.code.functions }
+        requires args { kinds_of args ≡ main_params code.now.script.code.functions }
+        ensures started { IfOk result (λ a. a ≡ record { executable = code.now; limits = limits; now = Some (start (codes_in code.now) args (record { store = heap; ticks = limits.ticks; reached = [] })); steps = 0 }) }
+        ensures bound { IfOk result (λ a. rest a ≤ most_steps (codes_in code.now) (limits_in code.now limits) limits.ticks) }
     {
         let memory = RunMemory::new(heap.alloc());
         VerifiedActivation::start_in(code, memory, heap, args, limits)
@@ -143,17 +86,13 @@ impl<'c> VerifiedActivation<'c> {
         args: Elements<Word>,
         limits: Limits,
     ) -> Result<VerifiedActivation<'c>, AllocError>
-        requires rows { HaveRows code.now.allow code.now.code.functions }
-        requires args { kinds_of args ≡ main_params code.now.code.functions }
-        ensures started { IfOk result (λ a. a ≡ record { run = record { code = code.now.code.functions; limits = limits; allow = code.now.allow; frame = code.now.frame; now = Some (start (codes_alone code.now.code.functions) args (record { store = heap; ticks = limits.ticks; reached = [] })); steps = 0 }; allow = code.now.allow }) }
-        ensures bound { IfOk result (λ a. rest a.run ≤ most_steps code.now.code.functions (limits_of limits code.now.allow) limits.ticks) }
+        requires rows { HaveRows code.now.script.allow code.now.script.code.functions }
+        requires args { kinds_of args ≡ main_params code.now.script.code.functions }
+        ensures started { IfOk result (λ a. a ≡ record { executable = code.now; limits = limits; now = Some (start (codes_in code.now) args (record { store = heap; ticks = limits.ticks; reached = [] })); steps = 0 }) }
+        ensures bound { IfOk result (λ a. rest a ≤ most_steps (codes_in code.now) (limits_in code.now limits) limits.ticks) }
     {
-        let run = Activation::start_in(&code.executable, memory, heap, args, limits)?;
-        Ok(VerifiedActivation {
-            code,
-            run,
-            done: false,
-        })
+        let run = Activation::start_in(code.executable(), memory, heap, args, limits)?;
+        Ok(VerifiedActivation { run, done: false })
     }
 
     /// Takes `q` instructions, or fewer where the run ends, as [`Task::turn`] does.
@@ -161,10 +100,9 @@ impl<'c> VerifiedActivation<'c> {
     /// It takes no memory where each of them makes no object and lets none grow, throws no new exception, and neither makes nor copies
     /// a text.
     pub fn advance(&mut self, q: u64) -> Turn
-        ensures exact { Turned q self.old.run self.new.run result }
-        ensures allow { self.new.allow ≡ self.old.allow }
-        ensures turns { Turns (λ r. rest r.run) (λ r. ending r.run) q self.old self.new result }
-        ensures memory { OnlySpares q self.old.run → HasTurned result }
+        ensures exact { Turned q self.old self.new result }
+        ensures turns { Turns rest ending q self.old self.new result }
+        ensures memory { OnlySpares q self.old → HasTurned result }
     {
         if self.done {
             Turn::Done
@@ -183,11 +121,11 @@ impl<'c> VerifiedActivation<'c> {
     ///
     /// Want of memory.
     pub fn finish(self) -> Result<RunOutcome, AllocError>
-        ensures alone { IfOk result (λ left. ending self.entry.run ≡ Some left) }
+        ensures alone { IfOk result (λ left. ending self.entry ≡ Some left) }
         ensures fitting { IfOk result (LeavesFitting self.entry) }
         // Where the start fits, so does what is left, as with [`VerifiedActivation::outcome`].
-        ensures heap { (rules : Rules) (before : List Object) → NowFits rules before self.entry.run.now → IfOk result (LeavesFit rules before) }
-        ensures memory { SparesMemory self.entry.run → IsOk result }
+        ensures heap { (before : List Object) → NowFits (rules_of_codes (codes_in self.entry.executable)) before self.entry.now → IfOk result (LeavesFit (rules_of_codes (codes_in self.entry.executable)) before) }
+        ensures memory { SparesMemory self.entry → IsOk result }
     {
         let FinishedRun {
             outcome,
@@ -203,10 +141,10 @@ impl<'c> VerifiedActivation<'c> {
     /// Want of memory.
     #[tactic(auto, using(crate::proofs::Finishing::left_by, crate::proofs::Finishing::fits_still))]
     pub fn finish_with_memory(mut self) -> Result<FinishedRun, AllocError>
-        ensures alone { IfOk result (λ left. ending self.entry.run ≡ Some left.outcome) }
+        ensures alone { IfOk result (λ left. ending self.entry ≡ Some left.outcome) }
         ensures fitting { IfOk result (λ left. LeavesFitting self.entry left.outcome) }
-        ensures heap { (rules : Rules) (before : List Object) → NowFits rules before self.entry.run.now → IfOk result (λ left. LeavesFit rules before left.outcome) }
-        ensures memory { SparesMemory self.entry.run → IsOk result }
+        ensures heap { (before : List Object) → NowFits (rules_of_codes (codes_in self.entry.executable)) before self.entry.now → IfOk result (λ left. LeavesFit (rules_of_codes (codes_in self.entry.executable)) before left.outcome) }
+        ensures memory { SparesMemory self.entry → IsOk result }
     {
         self.run_out()?;
         let Finished { outcome, memory } = self.leave();
@@ -218,12 +156,12 @@ impl<'c> VerifiedActivation<'c> {
 
     /// What the run leaves, once it has ended: what it would have come to alone.
     pub fn outcome(self) -> Option<RunOutcome>
-        ensures leaves { Leaves self.entry.run result }
+        ensures leaves { Leaves self.entry result }
         ensures fitting { IfSome result (LeavesFitting self.entry) }
-        // Where the start fits, each moment does (`code_fits`), and so does what is left: the heap, with each object of the start of its kind
-        // and of its class, and the end in it: a word that names what is there, or an exception.
-        ensures heap { (rules : Rules) (before : List Object) → NowFits rules before self.entry.run.now → IfSome result (LeavesFit rules before) }
-        ensures alone { rest self.entry.run ≡ 0 → result ≡ ending self.entry.run }
+        // Where the start fits, by the rules of the codes, each moment does (`code_fits`), and so does what is left: the heap, with each object
+        // of the start of its kind and of its class, and the end in it: a word that names what is there, or an exception.
+        ensures heap { (before : List Object) → NowFits (rules_of_codes (codes_in self.entry.executable)) before self.entry.now → IfSome result (LeavesFit (rules_of_codes (codes_in self.entry.executable)) before) }
+        ensures alone { rest self.entry ≡ 0 → result ≡ ending self.entry }
     {
         let Finished {
             outcome,
@@ -235,10 +173,10 @@ impl<'c> VerifiedActivation<'c> {
     /// The same, and the memory that the run had, for the next one.
     #[tactic(auto, using(crate::proofs::Fitted::left_under))]
     pub fn leave(self) -> Finished
-        ensures leaves { Leaves self.entry.run result.outcome }
+        ensures leaves { Leaves self.entry result.outcome }
         ensures fitting { IfSome result.outcome (LeavesFitting self.entry) }
-        ensures heap { (rules : Rules) (before : List Object) → NowFits rules before self.entry.run.now → IfSome result.outcome (LeavesFit rules before) }
-        ensures alone { rest self.entry.run ≡ 0 → result.outcome ≡ ending self.entry.run }
+        ensures heap { (before : List Object) → NowFits (rules_of_codes (codes_in self.entry.executable)) before self.entry.now → IfSome result.outcome (LeavesFit (rules_of_codes (codes_in self.entry.executable)) before) }
+        ensures alone { rest self.entry ≡ 0 → result.outcome ≡ ending self.entry }
     {
         self.run.finish()
     }
@@ -247,12 +185,11 @@ impl<'c> VerifiedActivation<'c> {
 impl<'c> VerifiedActivation<'c> {
     // Takes turns until the run has ended.
     fn run_out(&mut self) -> Result<(), AllocError>
-        ensures over { OnOk result (IsTrue (is_over self.new.run.now)) }
-        ensures left { OnOk result (rest self.new.run ≡ 0) }
-        ensures ending { OnOk result (ending self.new.run ≡ ending self.old.run) }
-        ensures code { OnOk result (self.new.run.code ≡ self.old.run.code) }
-        ensures allow { OnOk result (self.new.allow ≡ self.old.allow) }
-        ensures memory { SparesMemory self.old.run → IsOk result }
+        ensures over { OnOk result (IsTrue (is_over self.new.now)) }
+        ensures left { OnOk result (rest self.new ≡ 0) }
+        ensures ending { OnOk result (ending self.new ≡ ending self.old) }
+        ensures executable { OnOk result (self.new.executable ≡ self.old.executable) }
+        ensures memory { SparesMemory self.old → IsOk result }
     {
         'turns: loop {
             match self.advance(u64::MAX) {
@@ -267,9 +204,9 @@ impl<'c> VerifiedActivation<'c> {
 impl<'c> Task for VerifiedActivation<'c> {
     type Ending = Option<RunOutcome>;
 
-    ghost rest = { λ a. rest a.run };
+    ghost rest = { λ a. rest a };
 
-    ghost ending = { λ a. ending a.run };
+    ghost ending = { λ a. ending a };
 
     fn is_done(&self) -> bool {
         self.done

@@ -2,8 +2,10 @@
 #![tactic(auto)]
 
 mod activation;
+mod executable;
 
-pub use activation::{FinishedRun, VerifiedActivation, VerifiedExecutable};
+pub use activation::{FinishedRun, VerifiedActivation};
 pub use code_meaning::Word;
+pub use executable::{VerifiedExecutable, VerifiedText};
 pub use machine::{Limits, RunEnd, RunMemory, RunOutcome, boxed, unboxed};
-pub use verifier::{VerifyErr, verify};
+pub use verifier::{Verified, VerifyErr, verify};

@@ -7,11 +7,11 @@ mod Standing
 mod Lowering
 mod Moves
 mod Throwing
-mod Calling
 mod Plains
 mod Testing
 mod TextKinds
 mod Members
+mod Calling
 mod Forms
 mod Calls
 mod Accesses
@@ -19,4 +19,3 @@ mod Steps
 pub mod Runs
 pub mod Sizes
 mod Rowless
-pub mod Beside

@@ -1,10 +1,12 @@
 -- How many instructions a run can still take, and what lowers that.
 use Rattle.std.proofs.Common.{◌≡◌, ℕ, zero, suc, ◌+◌, ◌-◌, ◌*◌, ◌<◌, ◌≤◌, max, List, [], ◌∷◌, Option, Some, None, length, refl, sym, ap, ◌∙◌, subst, arith, suc-le-suc, mul-le-mul_right, mul_assoc}
 use Rattle.std.specs.Prelude.{slice_get}
+use Rattle.object_values.specs.declared.object.Owner.{Owner}
+use Rattle.object_values.specs.declared.object.Owner.TheVariants.{Script, Prelude}
 use Rattle.pl_code.specs.declared.code.FunCode.{FunCode}
 use Rattle.run_state.specs.World.{World, Limits}
-use Rattle.code_meaning.specs.Machine.{Frame, Config, depth_of}
-use Rattle.verifier_soundness.specs.Bounds.{longest, most_steps}
+use Rattle.code_meaning.specs.Machine.{Codes, Frame, Config, code_in, depth_of}
+use Rattle.verifier_soundness.specs.Bounds.{longest, longest_in, most_steps}
 
 abbrev count_of : Option FunCode → ℕ
 count_of None = 0
@@ -22,24 +24,24 @@ abbrev pub lines_from : List FunCode → ℕ → ℕ → ℕ
 lines_from code function line = lines_in code function - line
 
 -- the lines that the frames below have before them, when they go on behind their calls
-abbrev pub lines_below : List FunCode → List Frame → ℕ
-lines_below code [] = 0
-lines_below code (f ∷ fs) = lines_from code f.fun (suc f.line) + lines_below code fs
+abbrev pub lines_below : Codes → List Frame → ℕ
+lines_below codes [] = 0
+lines_below codes (f ∷ fs) = lines_from (code_in codes f.text) f.fun (suc f.line) + lines_below codes fs
 
 -- what a tick is worth: all lines of all frames
-abbrev pub tick_worth : List FunCode → Limits → ℕ
-tick_worth code limits = suc limits.depth * longest code
+abbrev pub tick_worth : Codes → Limits → ℕ
+tick_worth codes limits = suc limits.depth * longest_in codes
 
 -- what is left with these ticks, of so many lines in a function behind a line, and below it
 abbrev pub weight : (worth ticks lines line under : ℕ) → ℕ
 weight worth ticks lines line under = ticks * worth + ((lines - line) + under)
 
 -- the most instructions that are left
-abbrev pub left_at : List FunCode → Limits → Frame → List Frame → World → ℕ
-left_at code limits f below w = weight (tick_worth code limits) w.ticks (lines_in code f.fun) f.line (lines_below code below)
+abbrev pub left_at : Codes → Limits → Frame → List Frame → World → ℕ
+left_at codes limits f below w = weight (tick_worth codes limits) w.ticks (lines_in (code_in codes f.text) f.fun) f.line (lines_below codes below)
 
-abbrev pub left_of : List FunCode → Limits → Config → ℕ
-left_of code limits c = left_at code limits c.top c.below c.world
+abbrev pub left_of : Codes → Limits → Config → ℕ
+left_of codes limits c = left_at codes limits c.top c.below c.world
 
 -- ---- what lowers it
 
@@ -89,28 +91,42 @@ function_most [] k = omega arith
 function_most (f ∷ fs) zero = max_left (length f.lines) (longest fs)
 function_most (f ∷ fs) (suc k) = max_right (length f.lines) (longest fs) (lines_in fs k) (function_most fs k)
 
+max_before : (a b c : ℕ) → c ≤ a → c ≤ max a b
+max_before a b c h = omega arith
+
+text_most : (codes : Codes) (text : Owner) (k : ℕ) → lines_in (code_in codes text) k ≤ longest_in codes
+text_most codes Script k = max_before (longest codes.script) (longest codes.prelude) (lines_in codes.script k) (function_most codes.script k)
+text_most codes Prelude k = max_right (longest codes.script) (longest codes.prelude) (lines_in codes.prelude k) (function_most codes.prelude k)
+
 minus_most : (a b m : ℕ) → a ≤ m → a - b ≤ m
 minus_most a b m h = omega arith
 
 both_most : (a b d m : ℕ) → a ≤ m → b ≤ d * m → a + b ≤ suc d * m
 both_most a b d m h k = let s = suc_times d m in omega (arith, h, k, s)
 
-below_most : (code : List FunCode) (below : List Frame) → lines_below code below ≤ depth_of below * longest code
-below_most code [] = omega arith
-below_most code (f ∷ fs) =
-    both_most (lines_from code f.fun (suc f.line)) (lines_below code fs) (depth_of fs) (longest code)
-    (minus_most (lines_in code f.fun) (suc f.line) (longest code) (function_most code f.fun)) (below_most code fs)
+none_most : (m : ℕ) → 0 ≤ m
+none_most m = omega arith
+
+below_most : (codes : Codes) (below : List Frame) → lines_below codes below ≤ depth_of below * longest_in codes
+below_most codes [] = none_most (0 * longest_in codes)
+below_most codes (f ∷ fs) =
+    both_most (lines_from (code_in codes f.text) f.fun (suc f.line)) (lines_below codes fs) (depth_of fs) (longest_in codes)
+    (minus_most (lines_in (code_in codes f.text) f.fun) (suc f.line) (longest_in codes) (text_most codes f.text f.fun)) (below_most codes fs)
 
 deeper_most : (d most m : ℕ) → d ≤ most → suc d * m ≤ suc most * m
 deeper_most d most m h = mul-le-mul_right m (suc-le-suc h)
 
+most_of : (a b c : ℕ) → a ≤ b → b ≤ c → a ≤ c
+most_of a b c h k = omega (arith, h, k)
+
 -- what frames that the limit of depth allows have before them is no more than a tick is worth
-pub frames_most : (code : List FunCode) (limits : Limits) (function line : ℕ) (below : List Frame) → depth_of below ≤ limits.depth → lines_from code function line + lines_below code below ≤ tick_worth code limits
-frames_most code limits function line below h =
-    let here = both_most (lines_from code function line) (lines_below code below) (depth_of below) (longest code)
-    (minus_most (lines_in code function) line (longest code) (function_most code function)) (below_most code below) in
-    let deeper = deeper_most (depth_of below) limits.depth (longest code) h in
-    omega (arith, here, deeper)
+pub frames_most : (codes : Codes) (limits : Limits) (text : Owner) (function line : ℕ) (below : List Frame) → depth_of below ≤ limits.depth
+    → lines_from (code_in codes text) function line + lines_below codes below ≤ tick_worth codes limits
+frames_most codes limits text function line below h =
+    most_of (lines_from (code_in codes text) function line + lines_below codes below) (suc (depth_of below) * longest_in codes) (tick_worth codes limits)
+    (both_most (lines_from (code_in codes text) function line) (lines_below codes below) (depth_of below) (longest_in codes)
+    (minus_most (lines_in (code_in codes text) function) line (longest_in codes) (text_most codes text function)) (below_most codes below))
+    (deeper_most (depth_of below) limits.depth (longest_in codes) h)
 
 one_times : (t worth : ℕ) → (t + 1) * worth ≡ t * worth + worth
 one_times t worth = omega arith
@@ -127,6 +143,7 @@ all_most ticks worth here depth m h e =
     let whole : (ticks + 1) * (depth + 1) * m ≡ (ticks + 1) * worth = mul_assoc (ticks + 1) (depth + 1) m ∙ ap (λ n. (ticks + 1) * (n * m)) (one_more_is depth) ∙ ap (λ n. (ticks + 1) * n) (sym e) in
     no_more (ticks * worth + here) (ticks * worth + worth) ((ticks + 1) * (depth + 1) * m) (omega (arith, h)) (whole ∙ more)
 
-pub left_most : (code : List FunCode) (limits : Limits) (c : Config) → depth_of c.below ≤ limits.depth → left_of code limits c ≤ most_steps code limits c.world.ticks
-left_most code limits c h =
-    all_most c.world.ticks (tick_worth code limits) (lines_from code c.top.fun c.top.line + lines_below code c.below) limits.depth (longest code) (frames_most code limits c.top.fun c.top.line c.below h) refl
+pub left_most : (codes : Codes) (limits : Limits) (c : Config) → depth_of c.below ≤ limits.depth → left_of codes limits c ≤ most_steps codes limits c.world.ticks
+left_most codes limits c h =
+    all_most c.world.ticks (tick_worth codes limits) (lines_from (code_in codes c.top.text) c.top.fun c.top.line + lines_below codes c.below) limits.depth (longest_in codes)
+    (frames_most codes limits c.top.text c.top.fun c.top.line c.below h) refl

@@ -1,6 +1,6 @@
 -- Members: which a list allows, that words of their kinds fit them, and of which kind the word of their result is.
 use Rattle.std.proofs.Common.{◌≡◌, ℕ, suc, ◌==◌, Bool, true, false, ◌&&◌, List, [], ◌∷◌, ◌++◌, map, length, reverse, Option, Some, None, refl, sym, ap, ◌∙◌, subst, append-nil}
-use Rattle.std.specs.Prelude.{slice_get, option_and_then, if◌then◌else◌}
+use Rattle.std.specs.Prelude.{slice_get, option_and_then, option_map, if◌then◌else◌}
 use Rattle.std.specs.List.{list_all}
 use Rattle.std.proofs.lemmas.Bool.{false≢true, and_parts}
 use Rattle.std.proofs.lemmas.List.{length-reverse, reverse-reverse, reverse-append}
@@ -18,7 +18,7 @@ use Rattle.allowlist.specs.declared.member.MemberKind.TheVariants as kind
 use Rattle.allowlist.specs.declared.member.MemberType.{MemberType}
 use Rattle.allowlist.specs.Allow.{AllowList, flag, member_of}
 use Rattle.allowlist.specs.Catalogue.{catalogue}
-use Rattle.allowlist.specs.Index.{member_at}
+use Rattle.allowlist.specs.Index.{member_in}
 use Rattle.allowlist.proofs.Unique.{found_is_allowed}
 use Rattle.pl_code.specs.declared.kinds.Slot.{Slot}
 use Rattle.pl_code.specs.declared.kinds.Slot.TheVariants as slot
@@ -28,8 +28,8 @@ use Rattle.member_calls.specs.ContainerCallsTypes.{suits, primitive_in, primitiv
 use Rattle.code_meaning.specs.declared.word.Word.{Word}
 use Rattle.code_meaning.specs.declared.word.Word.TheVariants.{I, J, R}
 use Rattle.code_meaning.specs.Words.{boxed, unboxed}
-use Rattle.code_meaning.specs.Members.{reference_in, taken_layer, taken, before, taken_alike, taken_all, Receiving, Unfit, receives, receives_on, received_by, count_by, given_layer, given_as}
-use Rattle.verifier_soundness.specs.Fits.{kind_of, kinds_of}
+use Rattle.code_meaning.specs.Members.{reference_in, taken_layer, taken, taken_result_layer, taken_result, before, taken_alike, taken_all, Receiving, Unfit, receives, receives_on, received_by, count_by, given_layer, given_as}
+use Rattle.verifier_soundness.specs.Fits.{kind_of, kinds_of, given_kind_layer, given_kind}
 use Rattle.verifier_soundness.proofs.Words.{AreAll}
 use Rattle.verifier_soundness.proofs.Casts.{EffectIs}
 use Rattle.verifier_soundness.proofs.Testing.{each_of}
@@ -52,7 +52,7 @@ is_read_kind k = false
 -- A member of a sort that the list allows.
 pub record Found (allow : AllowList) (sort : MemberKind → Bool) (number : ℕ) : Type 0 where
   pub allowed : flag allow.members number ≡ true
-  pub looked_for : sort (member_at number).kind ≡ true
+  pub looked_for : sort (member_in allow number).kind ≡ true
 
 -- a sort is what is looked for, kind by kind
 abbrev Agrees : (MemberKind → Bool) → (MemberKind → Bool) → Type 0
@@ -64,26 +64,27 @@ same_sort sort other h kind.Instance = h.1
 same_sort sort other h kind.Constructor = h.2
 same_sort sort other h kind.Field = h.3
 
-own_is : (s : _) (class n number : ℕ) → own_sought s class n ≡ Some number → (n ≡ number) × (is_sought s (member_at number).kind ≡ true)
-own_is s class n number e = by_test (((member_at n).owner == class) && is_sought s (member_at n).kind) refl e
+own_is : (allow : AllowList) (s : _) (class n number : ℕ) → own_sought allow s class n ≡ Some number → (n ≡ number) × (is_sought s (member_in allow number).kind ≡ true)
+own_is allow s class n number e = by_test (((member_in allow n).owner == class) && is_sought s (member_in allow n).kind) refl e
   where
-    by_test : (b : Bool) → (((member_at n).owner == class) && is_sought s (member_at n).kind) ≡ b → (if b then Some n else None) ≡ Some number → (n ≡ number) × (is_sought s (member_at number).kind ≡ true)
+    by_test : (b : Bool) → (((member_in allow n).owner == class) && is_sought s (member_in allow n).kind) ≡ b → (if b then Some n else None) ≡ Some number
+        → (n ≡ number) × (is_sought s (member_in allow number).kind ≡ true)
     by_test true q e =
         let same : n ≡ number = cc in
-        (same, subst (λ n. is_sought s (member_at n).kind ≡ true) same (and_parts ((member_at n).owner == class) (is_sought s (member_at n).kind) q).1)
+        (same, subst (λ n. is_sought s (member_in allow n).kind ≡ true) same (and_parts ((member_in allow n).owner == class) (is_sought s (member_in allow n).kind) q).1)
     by_test false q e = cc
 
 own_found : (allow : AllowList) (s : _) (sort : MemberKind → Bool) (name : List ℕ) (arity class number : ℕ) → Agrees (is_sought s) sort → own_named allow s name arity class ≡ Some number → Found allow sort number
 unfolding own_named
 own_found allow s sort name arity class number so e = by_member (member_of allow class name arity) refl e
   where
-    by_member : (o : Option ℕ) → member_of allow class name arity ≡ o → option_and_then (own_sought s class) o ≡ Some number → Found allow sort number
+    by_member : (o : Option ℕ) → member_of allow class name arity ≡ o → option_and_then (own_sought allow s class) o ≡ Some number → Found allow sort number
     by_member None q e = cc
     by_member (Some n) q e =
-        let x = own_is s class n number e in
+        let x = own_is allow s class n number e in
         record {
           allowed = subst (λ n. flag allow.members n ≡ true) x.0 (found_is_allowed allow class name arity n q).0;
-          looked_for = sym (same_sort (is_sought s) sort so (member_at number).kind) ∙ x.1;
+          looked_for = sym (same_sort (is_sought s) sort so (member_in allow number).kind) ∙ x.1;
         }
 
 named_found : (allow : AllowList) (s : _) (sort : MemberKind → Bool) (class name : List ℕ) (arity number : ℕ) → Agrees (is_sought s) sort → member_named allow s class name arity ≡ Some number → Found allow sort number
@@ -211,6 +212,10 @@ abbrev pub IsThere : {A : Type 0} → Option A → Type 0
 IsThere None = ⊥
 IsThere (Some a) = Unit {0}
 
+pub there_is : {A : Type 0} (o : Option A) → IsThere o → (a : A) × (o ≡ Some a)
+there_is None h = absurd h
+there_is (Some a) h = (a, refl)
+
 -- what fits the member, or a receiver that is null
 abbrev pub IsReceived : Receiving → Type 0
 IsReceived Unfit = ⊥
@@ -252,6 +257,27 @@ layer_there (Ty-F.Array elem) word k = reference_there word k
 pub one_there : (of : Ty) (word : Word) → kind_of word ≡ kind_of_type of → IsThere (taken of word)
 unfolding kind_of_type
 one_there of word k = layer_there (out-Ty of) word k
+
+-- what a function of a type gives may be cast from that type
+some_kind : (k j : Slot) → Some k ≡ Some j → k ≡ j
+some_kind k j e = cc
+
+layer_given : (layer : Ty-F Ty) (result : Option Word) → option_map kind_of result ≡ given_kind_layer layer → IsThere (taken_result_layer layer result)
+layer_given Ty-F.Void None e = tt
+layer_given Ty-F.Void (Some word) e = cc
+layer_given Ty-F.Null None e = cc
+layer_given Ty-F.Null (Some word) e = layer_there Ty-F.Null word (some_kind (kind_of word) slot.R e)
+layer_given Ty-F.Def None e = cc
+layer_given Ty-F.Def (Some word) e = layer_there Ty-F.Def word (some_kind (kind_of word) slot.R e)
+layer_given (Ty-F.Prim p) None e = cc
+layer_given (Ty-F.Prim p) (Some word) e = layer_there (Ty-F.Prim p) word (some_kind (kind_of word) (kind_of_primitive p) e)
+layer_given (Ty-F.Class class) None e = cc
+layer_given (Ty-F.Class class) (Some word) e = layer_there (Ty-F.Class class) word (some_kind (kind_of word) slot.R e)
+layer_given (Ty-F.Array elem) None e = cc
+layer_given (Ty-F.Array elem) (Some word) e = layer_there (Ty-F.Array elem) word (some_kind (kind_of word) slot.R e)
+
+pub result_there : (of : Ty) (result : Option Word) → option_map kind_of result ≡ given_kind of → IsThere (taken_result of result)
+result_there of result e = layer_given (out-Ty of) result e
 
 both_there : (o : Option Value) (os : Option (List Value)) → IsThere o → IsThere os → IsThere (before o os)
 both_there None os h more = absurd h

@@ -1,7 +1,7 @@
 -- What a step comes to where a configuration fits: one that fits, of which less is left, or an end that fits.
-use Rattle.std.proofs.Common.{◌≡◌, ℕ, suc, ◌+◌, ◌-◌, ◌<◌, ◌≤◌, Bool, true, false, List, [], refl, sym, ap, ◌∙◌, subst, arith}
+use Rattle.std.proofs.Common.{◌≡◌, ℕ, suc, ◌+◌, ◌-◌, ◌<◌, ◌≤◌, Bool, true, false, List, refl, sym, ap, ◌∙◌, subst, arith}
 use Rattle.std.specs.List.{list_all}
-use Rattle.std.specs.Prelude.{nat_lt, if◌then◌else◌, not, slice_get, Some, ◌||◌}
+use Rattle.std.specs.Prelude.{nat_lt, if◌then◌else◌, not, ◌||◌}
 use Rattle.std.proofs.lemmas.Bool.{eq-eqb, ltb-true}
 use Rattle.pl_code.specs.declared.kinds.Slot.{Slot}
 use Rattle.pl_code.specs.declared.code.FunCode.{FunCode}
@@ -11,13 +11,12 @@ use Rattle.instruction_types.specs.declared.flow.Flow.TheVariants as flow
 use Rattle.instruction_types.specs.Effects.{flow_of}
 use Rattle.verifier.specs.Meets.{goes_to}
 use Rattle.verifier.specs.Fits.{FrameKinds, FitsLine, at_with}
-use Rattle.run_state.specs.World.{World, Limits, Counted, Counts, Passes, Ticks, Loop, Depth, pay_tick, take_turn, goes_deeper, enter}
+use Rattle.run_state.specs.World.{World, Limits, Counted, Counts, Passes, Ticks, Loop, Depth, pay_tick, take_turn, goes_deeper, enter, allowed_in}
 use Rattle.code_meaning.specs.declared.word.Word.{Word}
-use Rattle.code_meaning.specs.Machine.{Frame, Config, Next, Goes, Ends, Stuck, to_line, depth_of, code_in, function_of, codes_of}
-use Rattle.verifier_soundness.specs.Fits.{kinds_of, frame_kinds, BelowFits, ReachesAllowed, FitsConfig, FitsEnd}
+use Rattle.code_meaning.specs.Machine.{Codes, Frame, Config, Next, Goes, Ends, Stuck, to_line, depth_of, code_in}
+use Rattle.verifier_soundness.specs.Fits.{kinds_of, frame_kinds, FrameFits, BelowFits, ReachesAllowed, FitsConfig, FitsEnd}
 use Rattle.verifier_soundness.proofs.Standing.{StandsIn}
 use Rattle.verifier_soundness.proofs.Lowering.{lines_in, lines_so, left_at, left_of, lines_below, tick_worth, later_is_less}
-use Rattle.object_values.specs.declared.object.Owner.TheVariants.{Script}
 
 -- ---- ticks
 
@@ -63,66 +62,70 @@ pub call_is_paid : (limits : Limits) (depth : ℕ) (w : World) → EntersSo limi
 unfolding enter
 call_is_paid limits depth w = deeper_so limits depth w (pay_tick w) (tick_is_paid w)
 
+-- ---- frames at their lines
+
+pub lines_are : (allow : AllowList) (code : List FunCode) (function : FunCode) (frame : FrameKinds) → FitsLine allow code function frame → frame.line < lines_in code frame.function
+lines_are allow code function frame fits = let within = fits.within in omega (arith, lines_so code frame.function function fits.is, within)
+
+-- a frame at another line with other operands
+pub fits_with : (allow : AllowList) (code : List FunCode) (function : FunCode) (frame : FrameKinds) (to : ℕ) (left kinds : List Slot) → FitsLine allow code function (at_with frame to left) → kinds ≡ left
+    → FitsLine allow code function (at_with frame to kinds)
+fits_with allow code function frame to left kinds fits e = subst (λ ks. FitsLine allow code function (at_with frame to ks)) (sym e) fits
+
 -- ---- where a step goes
 
--- the function of a frame that stands in the script's text
-pub function_is : (code prelude : List FunCode) (f : Frame) (function : FunCode) → f.text ≡ Script → slice_get code f.fun ≡ Some function → function_of (codes_of code prelude) f ≡ Some function
-function_is code prelude f function text is = ap (λ text. slice_get (code_in (codes_of code prelude) text) f.fun) text ∙ is
-
-module _ (allow : AllowList) (code : List FunCode) (limits : Limits) where
+module _ (codes : Codes) (limits : Limits) where
   pub record Reached (from : ℕ) (c : Config) : Type 0 where
-    pub fits : FitsConfig allow code limits c
-    pub less : left_of code limits c < from
+    pub fits : FitsConfig codes limits c
+    pub less : left_of codes limits c < from
 
   abbrev pub Moves : ℕ → Next → Type 0
   Moves from (Goes c) = Reached from c
-  Moves from (Ends r) = FitsEnd allow code r
+  Moves from (Ends r) = FitsEnd codes limits r
   Moves from Stuck = ⊥
 
   -- A frame at an instruction, with those below it.
   pub record Here (function : FunCode) (f : Frame) (below : List Frame) (w : World) : Type 0 where
-    pub fits : FitsLine allow code function (frame_kinds f)
-    pub due : f.due ≡ []
-    pub text : f.text ≡ Script
-    pub belows : BelowFits allow code below function.result
+    pub fits : FrameFits codes limits function f
+    pub belows : BelowFits codes limits below f.text f.due function.result
     pub within : depth_of below ≤ limits.depth
-    pub reached : ReachesAllowed allow w
+    pub reached : ReachesAllowed limits.ground.allowed w
 
-  -- A world in which no tick was paid, and members of the list alone were reached.
+  -- an instruction stands at the line of a frame, in the code of its text
+  abbrev pub StandsAt : FunCode → Frame → Instruction → Type 0
+  StandsAt function f i = StandsIn (allowed_in limits f.text) (code_in codes f.text) function (frame_kinds f) i
+
+  -- A world in which no tick was paid, and members of the script's list alone were reached.
   pub record GoesTo (w w' : World) : Type 0 where
     pub ticks : w'.ticks ≡ w.ticks
-    pub reached : ReachesAllowed allow w'
+    pub reached : ReachesAllowed limits.ground.allowed w'
 
   pub stays : (function : FunCode) (f : Frame) (below : List Frame) (w : World) → Here function f below w → GoesTo w w
   stays function f below w here = record { ticks = refl; reached = here.reached }
 
+  -- .. and another behind it
+  pub goes_then : (w w' w'' : World) → GoesTo w w' → GoesTo w' w'' → GoesTo w w''
+  goes_then w w' w'' first second = record { ticks = second.ticks ∙ first.ticks; reached = second.reached }
+
   -- the same members were reached
-  pub same_reached : (w w' : World) → w'.reached ≡ w.reached → ReachesAllowed allow w → ReachesAllowed allow w'
-  same_reached w w' e reached = ap (list_all (flag allow.members)) e ∙ reached
-
-  pub lines_are : (function : FunCode) (frame : FrameKinds) → FitsLine allow code function frame → frame.line < lines_in code frame.function
-  lines_are function frame fits = let within = fits.within in omega (arith, lines_so code frame.function function fits.is, within)
-
-  -- a frame at another line with other operands
-  pub fits_with : (function : FunCode) (frame : FrameKinds) (to : ℕ) (left kinds : List Slot) → FitsLine allow code function (at_with frame to left) → kinds ≡ left → FitsLine allow code function (at_with frame to kinds)
-  fits_with function frame to left kinds fits e = subst (λ ks. FitsLine allow code function (at_with frame to ks)) (sym e) fits
+  pub same_reached : (w w' : World) → w'.reached ≡ w.reached → ReachesAllowed limits.ground.allowed w → ReachesAllowed limits.ground.allowed w'
+  same_reached w w' e reached = ap (list_all (flag limits.ground.allowed.members)) e ∙ reached
 
   -- It goes on at a later line, with what the instruction leaves.
-  pub goes_on : (function : FunCode) (f : Frame) (below : List Frame) (w w' : World) (i : Instruction) (s : StandsIn allow code function (frame_kinds f) i) → Here function f below w
+  pub goes_on : (function : FunCode) (f : Frame) (below : List Frame) (w w' : World) (i : Instruction) (s : StandsAt function f i) → Here function f below w
       → (to : ℕ) (stack : List Word) → GoesTo w w' → goes_to (flow_of i) f.line to ≡ true → kinds_of stack ≡ s.left
-      → Moves (left_at code limits f below w) (to_line f below w' to stack)
+      → Moves (left_at codes limits f below w) (to_line f below w' to stack)
   goes_on function f below w w' i s here to stack same goes kinds =
       record {
         fits = record {
           function = function;
-          top = fits_with function (frame_kinds f) to s.left (kinds_of stack) (s.goes to goes) kinds;
-          due = here.due;
-          text = here.text;
+          top = fits_with (allowed_in limits f.text) (code_in codes f.text) function (frame_kinds f) to s.left (kinds_of stack) (s.goes to goes) kinds;
           below = here.belows;
           within = here.within;
           reached = same.reached;
         };
-        less = later_is_less (tick_worth code limits) w.ticks w'.ticks (lines_in code f.fun) f.line to (lines_below code below) same.ticks (lines_are function (frame_kinds f) here.fits) (s.later to goes);
+        less = later_is_less (tick_worth codes limits) w.ticks w'.ticks (lines_in (code_in codes f.text) f.fun) f.line to (lines_below codes below) same.ticks
+            (lines_are (allowed_in limits f.text) (code_in codes f.text) function (frame_kinds f) here.fits) (s.later to goes);
       }
 
   suc_is : (n : ℕ) → suc n ≡ n + 1
@@ -132,7 +135,7 @@ module _ (allow : AllowList) (code : List FunCode) (limits : Limits) where
   next_line i line e = ap (λ way. goes_to way line (suc line)) e ∙ eq-eqb (suc line) (line + 1) (suc_is line)
 
   -- It goes on at the next line.
-  pub goes_next : (function : FunCode) (f : Frame) (below : List Frame) (w w' : World) (i : Instruction) (s : StandsIn allow code function (frame_kinds f) i) → Here function f below w
+  pub goes_next : (function : FunCode) (f : Frame) (below : List Frame) (w w' : World) (i : Instruction) (s : StandsAt function f i) → Here function f below w
       → (stack : List Word) → GoesTo w w' → flow_of i ≡ flow.GoesOn → kinds_of stack ≡ s.left
-      → Moves (left_at code limits f below w) (to_line f below w' (suc f.line) stack)
+      → Moves (left_at codes limits f below w) (to_line f below w' (suc f.line) stack)
   goes_next function f below w w' i s here stack same goes kinds = goes_on function f below w w' i s here (suc f.line) stack same (next_line i f.line goes) kinds

@@ -12,7 +12,6 @@ use Rattle.pl_code.specs.declared.kinds.Slot.{Slot}
 use Rattle.pl_code.specs.declared.kinds.Slot.TheVariants as slot
 use Rattle.pl_code.specs.declared.code.FunCode.{FunCode}
 use Rattle.pl_code.specs.declared.code.Instruction.{Instruction}
-use Rattle.allowlist.specs.Allow.{AllowList}
 use Rattle.instruction_types.specs.declared.copying.Copying.{Copying}
 use Rattle.instruction_types.specs.declared.copying.Copying.TheVariants as copying
 use Rattle.instruction_types.specs.declared.flow.Flow.{Flow}
@@ -20,21 +19,19 @@ use Rattle.instruction_types.specs.declared.flow.Flow.TheVariants as flow
 use Rattle.instruction_types.specs.Effects.{copied, emptied, loads, stores, flow_of, left_by}
 use Rattle.instruction_types.specs.Types.{kind_of_primitive}
 use Rattle.verifier.specs.Meets.{goes_to, turns_to, left_in}
-use Rattle.verifier.specs.Shaped.{IsWellShapedCode}
-use Rattle.run_state.specs.World.{World, Limits, Counted, Counts, Passes, take_turn}
+use Rattle.run_state.specs.World.{World, Limits, Counted, Counts, Passes, allowed_in, take_turn}
 use Rattle.code_meaning.specs.declared.word.Word.{Word}
 use Rattle.code_meaning.specs.declared.word.Word.TheVariants.{I, J, R}
 use Rattle.code_meaning.specs.Words.{Calculation, NoRow, Calculates, boxed, unboxed, word_of}
 use Rattle.code_meaning.specs.Machine as code_steps
-use Rattle.code_meaning.specs.Machine.{Frame, Next, Goes, on_top, on_int, on_reference, on_value, on_local, on_stack, on_turn, on_calculation, unless_zero, if_null, to_line, on_loops, function_of, codes_of}
-use Rattle.verifier_soundness.specs.Fits.{kind_of, kinds_of, frame_kinds}
+use Rattle.code_meaning.specs.Machine.{Codes, Frame, Next, Goes, code_in, on_top, on_int, on_reference, on_value, on_local, on_stack, on_turn, on_calculation, unless_zero, if_null, to_line, on_loops, function_of}
+use Rattle.verifier_soundness.specs.Fits.{AreWellShaped, kind_of, kinds_of, frame_kinds}
 use Rattle.verifier_soundness.proofs.Words.{exchanged, on_one, on_one_int, on_one_reference, on_one_local, stored, left_is}
 use Rattle.verifier_soundness.proofs.Operators.{CalculatesTo}
 use Rattle.verifier_soundness.proofs.Casts.{divisor_is}
 use Rattle.verifier_soundness.proofs.References.{by_null}
-use Rattle.verifier_soundness.proofs.Standing.{StandsIn}
 use Rattle.verifier_soundness.proofs.Lowering.{lines_in, left_at, lines_below, tick_worth, later_is_less, paid_is_less, something_left, frames_most}
-use Rattle.verifier_soundness.proofs.Moves.{GoesTo, stays, same_reached, Moves, Here, CountsSo, turn_is_paid, lines_are, fits_with, goes_on, goes_next, next_line, function_is}
+use Rattle.verifier_soundness.proofs.Moves.{GoesTo, stays, same_reached, Moves, Here, StandsAt, CountsSo, turn_is_paid, lines_are, fits_with, goes_on, goes_next, next_line}
 use Rattle.verifier_soundness.proofs.Throwing.{effect_moves}
 
 -- ---- copies
@@ -144,20 +141,20 @@ only_int P (I a ∷ b ∷ stack) left next e h = cc
 only_int P (J a ∷ stack) left next e h = cc
 only_int P (R a ∷ stack) left next e h = cc
 
-module _ (allow : AllowList) (code prelude : List FunCode) (limits : Limits) (well : IsWellShapedCode allow code) (function : FunCode) (f : Frame) (below : List Frame) (w : World) (i : Instruction) (s : StandsIn allow code function (frame_kinds f) i) (here : Here allow code limits function f below w) where
+module _ (codes : Codes) (limits : Limits) (well : AreWellShaped codes limits) (function : FunCode) (f : Frame) (below : List Frame) (w : World) (i : Instruction) (s : StandsAt codes limits function f i) (here : Here codes limits function f below w) where
   abbrev Moved : Next → Type 0
-  Moved next = Moves allow code limits (left_at code limits f below w) next
+  Moved next = Moves codes limits (left_at codes limits f below w) next
 
-  same : GoesTo allow code limits w w
-  same = stays allow code limits function f below w here
+  same : GoesTo codes limits w w
+  same = stays codes limits function f below w here
 
   -- a word more
   pub puts : (word : Word) → flow_of i ≡ flow.GoesOn → exchanged [] (kind_of word ∷ []) (kinds_of f.stack) ≡ Some s.left → Moved (to_line f below w (suc f.line) (word ∷ f.stack))
-  puts word goes leaves = goes_next allow code limits function f below w w i s here (word ∷ f.stack) same goes (left_is (kind_of word ∷ []) (kinds_of f.stack) s.left leaves)
+  puts word goes leaves = goes_next codes limits function f below w w i s here (word ∷ f.stack) same goes (left_is (kind_of word ∷ []) (kinds_of f.stack) s.left leaves)
 
   -- the next line, with another stack
   pub next_with : (stack : List Word) → flow_of i ≡ flow.GoesOn → kinds_of stack ≡ s.left → Moved (to_line f below w (suc f.line) stack)
-  next_with stack goes kinds = goes_next allow code limits function f below w w i s here stack same goes kinds
+  next_with stack goes kinds = goes_next codes limits function f below w w i s here stack same goes kinds
 
   pub copies : (p : Plain) (c : Copying) → CopiesAs p c → flow_of i ≡ flow.GoesOn → copied c (kinds_of f.stack) ≡ Some s.left → Moved (on_stack (code_steps.copied p f.stack) (λ stack. to_line f below w (suc f.line) stack))
   copies p c copied_so goes leaves =
@@ -178,19 +175,17 @@ module _ (allow : AllowList) (code prelude : List FunCode) (limits : Limits) (we
   store_moves : (n : ℕ) (k : Slot) (word : Word) (stack : List Word) → flow_of i ≡ flow.GoesOn → slice_get (kinds_of f.locals) n ≡ Some k → kind_of word ≡ k → kinds_of stack ≡ s.left
       → Moved (Goes (record { top = record { text = f.text; fun = f.fun; line = suc f.line; locals = slice_set f.locals n word; stack = stack; turns = f.turns; due = f.due }; below = below; world = w }))
   store_moves n k word stack goes is kind kinds =
-      let next = next_line allow code limits i f.line goes in
-      let fits = fits_with allow code limits function (frame_kinds f) (suc f.line) s.left (kinds_of stack) (s.goes (suc f.line) next) kinds in
+      let next = next_line codes limits i f.line goes in
+      let fits = fits_with (allowed_in limits f.text) (code_in codes f.text) function (frame_kinds f) (suc f.line) s.left (kinds_of stack) (s.goes (suc f.line) next) kinds in
       record {
         fits = record {
           function = function;
           top = record { is = fits.is; locals = stored f.locals n k word is kind ∙ fits.locals; within = fits.within; stack = fits.stack };
-          due = here.due;
-          text = here.text;
           below = here.belows;
           within = here.within;
           reached = here.reached;
         };
-        less = later_is_less (tick_worth code limits) w.ticks w.ticks (lines_in code f.fun) f.line (suc f.line) (lines_below code below) refl (lines_are allow code limits function (frame_kinds f) here.fits) (s.later (suc f.line) next);
+        less = later_is_less (tick_worth codes limits) w.ticks w.ticks (lines_in (code_in codes f.text) f.fun) f.line (suc f.line) (lines_below codes below) refl (lines_are (allowed_in limits f.text) (code_in codes f.text) function (frame_kinds f) here.fits) (s.later (suc f.line) next);
       }
 
   pub stores_local : (n : ℕ) (o : Option Slot) → flow_of i ≡ flow.GoesOn → slice_get (kinds_of f.locals) n ≡ o → left_in (option_map stores o) (kinds_of f.stack) ≡ Some s.left
@@ -204,9 +199,9 @@ module _ (allow : AllowList) (code prelude : List FunCode) (limits : Limits) (we
 
   -- ---- operators and boxes
 
-  pub calculated : (c : Calculation) → flow_of i ≡ flow.GoesOn → CalculatesTo c s.left → Moved (on_calculation (codes_of code prelude) limits c f below w)
+  pub calculated : (c : Calculation) → flow_of i ≡ flow.GoesOn → CalculatesTo c s.left → Moved (on_calculation codes limits c f below w)
   calculated NoRow goes to = absurd to
-  calculated (Calculates None stack) goes to = effect_moves allow code prelude limits well function f below w i s here unboxed to.0 stack (effect w.store zero_divisor) goes to.1 (divisor_is unboxed to.0 w.store)
+  calculated (Calculates None stack) goes to = effect_moves codes limits well function f below w i s here unboxed to.0 stack (effect w.store zero_divisor) goes to.1 (divisor_is unboxed to.0 w.store)
   calculated (Calculates (Some number) stack) goes to = next_with (word_of number ∷ stack) goes to
 
   pub boxes : (p : Primitive) → flow_of i ≡ flow.GoesOn → exchanged (kind_of_primitive p ∷ []) (slot.R ∷ []) (kinds_of f.stack) ≡ Some s.left
@@ -218,13 +213,13 @@ module _ (allow : AllowList) (code prelude : List FunCode) (limits : Limits) (we
   -- ---- jumps and loops
 
   pub jumps : (to : ℕ) → flow_of i ≡ flow.Jumps to → exchanged [] [] (kinds_of f.stack) ≡ Some s.left → Moved (to_line f below w to f.stack)
-  jumps to goes leaves = goes_on allow code limits function f below w w i s here to f.stack same (jump_goes (flow_of i) f.line to goes) (left_is [] (kinds_of f.stack) s.left leaves)
+  jumps to goes leaves = goes_on codes limits function f below w w i s here to f.stack same (jump_goes (flow_of i) f.line to goes) (left_is [] (kinds_of f.stack) s.left leaves)
 
   -- at one number it goes on, and at the others it jumps
   branches_on : (to : ℕ) (stack : List Word) → flow_of i ≡ flow.Branches to → kinds_of stack ≡ s.left → Moved (to_line f below w (suc f.line) stack) × Moved (to_line f below w to stack)
   branches_on to stack goes kinds = (
-    goes_on allow code limits function f below w w i s here (suc f.line) stack same (branch_next (flow_of i) f.line to goes) kinds,
-    goes_on allow code limits function f below w w i s here to stack same (branch_goes (flow_of i) f.line to goes) kinds,
+    goes_on codes limits function f below w w i s here (suc f.line) stack same (branch_next (flow_of i) f.line to goes) kinds,
+    goes_on codes limits function f below w w i s here to stack same (branch_goes (flow_of i) f.line to goes) kinds,
   )
 
   pub branches_at_zero : (to : ℕ) → flow_of i ≡ flow.Branches to → exchanged (slot.I ∷ []) [] (kinds_of f.stack) ≡ Some s.left
@@ -246,37 +241,35 @@ module _ (allow : AllowList) (code prelude : List FunCode) (limits : Limits) (we
       (λ value stack kinds. let x = branches_on to stack goes kinds in by_null Moved value (to_line f below w to stack) (to_line f below w (suc f.line) stack) x.1 x.0)
 
   -- a turn goes back, and pays a tick
-  turned : (to : ℕ) (c : Counted) → flow_of i ≡ flow.Turns to → CountsSo w c → Moved (on_turn (codes_of code prelude) limits c to f below w [])
-  turned to (Passes limit w') goes so = same_reached allow code limits w w' so here.reached
+  turned : (to : ℕ) (c : Counted) → flow_of i ≡ flow.Turns to → CountsSo w c → Moved (on_turn codes limits c to f below w [])
+  turned to (Passes limit w') goes so = same_reached codes limits w w' so here.reached
   turned to (Counts w') goes so =
-      let lines = lines_are allow code limits function (frame_kinds f) here.fits in
+      let lines = lines_are (allowed_in limits f.text) (code_in codes f.text) function (frame_kinds f) here.fits in
       record {
         fits = record {
           function = function;
           top = s.turns to (turn_goes (flow_of i) to goes);
-          due = here.due;
-          text = here.text;
           below = here.belows;
           within = here.within;
-          reached = same_reached allow code limits w w' so.1 here.reached;
+          reached = same_reached codes limits w w' so.1 here.reached;
         };
-        less = paid_is_less (tick_worth code limits) w.ticks w'.ticks ((lines_in code f.fun - f.line) + lines_below code below) ((lines_in code f.fun - to) + lines_below code below) so.0
-            (frames_most code limits f.fun to below here.within) (something_left (lines_in code f.fun) f.line (lines_below code below) lines);
+        less = paid_is_less (tick_worth codes limits) w.ticks w'.ticks ((lines_in (code_in codes f.text) f.fun - f.line) + lines_below codes below) ((lines_in (code_in codes f.text) f.fun - to) + lines_below codes below) so.0
+            (frames_most codes limits f.text f.fun to below here.within) (something_left (lines_in (code_in codes f.text) f.fun) f.line (lines_below codes below) lines);
       }
 
   -- a loop of a function with a limit of turns, or without
   abbrev looping : ℕ → Bool → Next
   looping to limited =
-      on_top f.stack (λ word stack. on_int word (λ a. unless_zero a (on_turn (codes_of code prelude) limits (take_turn limits limited f.turns w) to f below w stack) (to_line f below w (suc f.line) stack)))
+      on_top f.stack (λ word stack. on_int word (λ a. unless_zero a (on_turn codes limits (take_turn limits limited f.turns w) to f below w stack) (to_line f below w (suc f.line) stack)))
 
   loops_with : (to : ℕ) (limited : Bool) → flow_of i ≡ flow.Turns to → emptied (kinds_of f.stack) ≡ Some s.left → Moved (looping to limited)
   loops_with to limited goes leaves =
-      only_int Moved f.stack s.left (λ a stack. unless_zero a (on_turn (codes_of code prelude) limits (take_turn limits limited f.turns w) to f below w stack) (to_line f below w (suc f.line) stack)) leaves
-      (λ a kinds. by_zero Moved a (on_turn (codes_of code prelude) limits (take_turn limits limited f.turns w) to f below w []) (to_line f below w (suc f.line) [])
+      only_int Moved f.stack s.left (λ a stack. unless_zero a (on_turn codes limits (take_turn limits limited f.turns w) to f below w stack) (to_line f below w (suc f.line) stack)) leaves
+      (λ a kinds. by_zero Moved a (on_turn codes limits (take_turn limits limited f.turns w) to f below w []) (to_line f below w (suc f.line) [])
       (turned to (take_turn limits limited f.turns w) goes (turn_is_paid limits limited f.turns w))
-      (goes_on allow code limits function f below w w i s here (suc f.line) [] same (turn_next (flow_of i) f.line to goes) kinds))
+      (goes_on codes limits function f below w w i s here (suc f.line) [] same (turn_next (flow_of i) f.line to goes) kinds))
 
-  pub loops : (to : ℕ) → flow_of i ≡ flow.Turns to → emptied (kinds_of f.stack) ≡ Some s.left → Moved (on_loops (codes_of code prelude) limits (function_of (codes_of code prelude) f) (looping to))
+  pub loops : (to : ℕ) → flow_of i ≡ flow.Turns to → emptied (kinds_of f.stack) ≡ Some s.left → Moved (on_loops codes limits (function_of codes f) (looping to))
   loops to goes leaves =
-      subst (λ o. Moved (on_loops (codes_of code prelude) limits o (looping to))) (sym (function_is code prelude f function here.text here.fits.is))
+      subst (λ o. Moved (on_loops codes limits o (looping to))) (sym here.fits.is)
       (loops_with to function.loops goes leaves)

@@ -1,7 +1,6 @@
 pub mod Rows
 pub mod Fits
 pub mod Bounds
-pub mod Beside
 pub mod Laws
 -- Definitions of the libraries below that clauses here speak of, passed on.
 pub use Rattle.code_meaning.specs.Machine

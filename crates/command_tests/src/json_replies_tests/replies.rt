@@ -92,13 +92,19 @@ fn limits(rt: HostRuntime) {
         let score = is_told(
             rt.alloc(),
             SearchKind::Score,
-            &End::Limit(*which),
+            &End::Limit {
+                limit: *which,
+                place: None,
+            },
             (true, *wanted),
         );
         let filter = is_told(
             rt.alloc(),
             SearchKind::Filter,
-            &End::Limit(*which),
+            &End::Limit {
+                limit: *which,
+                place: None,
+            },
             (true, *wanted),
         );
         assert!(rt; score, "{wanted}");
@@ -141,7 +147,7 @@ fn other_ends(rt: HostRuntime) {
     let thrown = is_told(
         rt.alloc(),
         SearchKind::Score,
-        &End::Thrown(0),
+        &End::Thrown { id: 0, place: None },
         (
             true,
             "{\"error\":{\"class\":\"Exception\",\"kind\":\"thrown\",\"message\":\"m\"}}\n",

@@ -74,7 +74,10 @@ fn shown(rt: HostRuntime) {
         };
         let value = End::Value(Value::Int(7));
         let gives = is_told(rt.alloc(), keys, value, false, *result);
-        let limit = End::Limit(Which::Loop);
+        let limit = End::Limit {
+            limit: Which::Loop,
+            place: None,
+        };
         let fails = is_told(rt.alloc(), keys, limit, true, *error);
         assert!(rt; gives, "{result}");
         assert!(rt; fails, "{error}");

@@ -206,8 +206,8 @@ module _ (funs : Programs) (codes : Codes) (limits : Limits) (c : Ctx codes) (h 
   comes_back a f n (Done Broke s' e') d = tt
   comes_back a f n (Done Continued s' e') d = tt
   comes_back a f n (Done (Returned value) s' e') d = λ r j. d r (λ l' f' y. j l f tt)
-  comes_back a f n (Thrown id s' e') d = λ r j. d r (λ l' f'. throws codes limits c h q call l st id (record { world = s'.world; turns = s.turns }) r a (j l f))
-  comes_back a f n (Over limit w) d = d
+  comes_back a f n (Thrown id arose s' e') d = λ r j. d r (λ l' f'. throws codes limits c h q call l st id arose (record { world = s'.world; turns = s.turns }) r a (j l f))
+  comes_back a f n (Over limit arose w) d = d
   comes_back a f n More d = tt
 
 module _ (funs : Programs) (codes : Codes) (limits : Limits) (m : Meaning) (ih : Refines funs codes limits m) where

@@ -13,7 +13,7 @@ use Rattle.pl_code.specs.declared.kinds.Sized.TheVariants as sized
 use Rattle.pl_code.specs.declared.kinds.Typed.TheVariants as typed
 use Rattle.pl_code.specs.declared.code.Instruction.{Instruction}
 use Rattle.pl_code.specs.declared.code.Instruction.TheVariants as i
-use Rattle.run_state.specs.World.{Limits, Outcome, Given, Raised, Full, acts_in}
+use Rattle.run_state.specs.World.{Limits, not_told, Outcome, Given, Raised, Full, acts_in}
 use Rattle.source_meaning.specs.Tree.{Programs}
 use Rattle.source_meaning.specs.Operating as source
 use Rattle.source_meaning.specs.Operating.{Acts, ints_of, made_of, filled_of, passed, passed_alike, read_at, written_if, written_at}
@@ -94,7 +94,7 @@ module _ (funs : Programs) (codes : Codes) (limits : Limits) (c : Ctx codes) (h 
   pub done_runs : (q : ℕ) (i' : Instruction) (s : State) (e : Env) (l st st' : List Word) → At c.body h q i' → Fits c.body g e l → (x : Outcome Value)
       → Sim codes limits c h g (λ dropped s l. at codes limits c (suc q) l st s) Any (on_done codes limits x (frame codes limits c q l st' s) c.below s.world st) (meaning.effect x s e)
   done_runs q i' s e l st st' a f (Given value w) = done codes limits f tt
-  done_runs q i' s e l st st' a f (Raised id w) = record { by = λ r d. throws codes limits c h q i' l st' id (record { world = w; turns = s.turns }) r a (d l f) }
+  done_runs q i' s e l st st' a f (Raised id w) = record { by = λ r d. throws codes limits c h q i' l st' id not_told (record { world = w; turns = s.turns }) r a (d l f) }
   done_runs q i' s e l st st' a f Full = record { by = ended codes limits _ }
 
   -- ---- words off the stack

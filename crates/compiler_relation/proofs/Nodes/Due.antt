@@ -9,7 +9,7 @@ use Rattle.object_values.specs.declared.value.Value.TheVariants as v
 use Rattle.number_ops.specs.Casts.{cast_at_run_time}
 use Rattle.number_ops.specs.Outcomes as outcomes
 use Rattle.pl_code.specs.declared.code.Instruction.{Instruction}
-use Rattle.run_state.specs.World.{World, Limits, Outcome, Given, Raised, Full, acts_in}
+use Rattle.run_state.specs.World.{World, Limits, not_told, Outcome, Given, Raised, Full, acts_in}
 use Rattle.source_meaning.specs.Tree.{Programs}
 use Rattle.source_meaning.specs.Operating.{in_box, passed_result_layer, passed_result}
 use Rattle.source_meaning.specs.Meaning.{State, Env, Out, bind, found, effect, casts_due}
@@ -60,7 +60,7 @@ module _ (funs : Programs) (codes : Codes) (limits : Limits) (c : Ctx codes) (h 
       → ((value : Value) (w : World) → Sim codes limits c h g land good (next value w) (k value (record { world = w; turns = s.turns }) e))
       → Sim codes limits c h g land good (on_given codes limits x (frame codes limits c q l st s) c.below s.world next) (bind (effect x s e) k)
   given_runs a f s (Given value w) next k d = d value w
-  given_runs a f s (Raised id w) next k d = record { by = λ r j. throws codes limits c h q call l st id (record { world = w; turns = s.turns }) r a (j l f) }
+  given_runs a f s (Raised id w) next k d = record { by = λ r j. throws codes limits c h q call l st id not_told (record { world = w; turns = s.turns }) r a (j l f) }
   given_runs a f s Full next k d = record { by = ended codes limits _ }
 
   each_runs : At c.body h q call → Fits c.body g e l → (tos : List Ty) (value : Value) (s : State)

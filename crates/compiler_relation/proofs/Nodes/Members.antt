@@ -12,7 +12,7 @@ use Rattle.allowlist.specs.declared.member.MemberKind.TheVariants as kind
 use Rattle.allowlist.specs.declared.member.MemberType.{MemberType}
 use Rattle.allowlist.specs.Allow.{flag}
 use Rattle.allowlist.specs.Catalogue.{catalogue, constructor}
-use Rattle.allowlist.specs.Index.{member_at}
+use Rattle.allowlist.specs.Index.{member_at, member_in}
 use Rattle.member_names.specs.Names.{text_of, named_by, TextsName}
 use Rattle.source_meaning.specs.MemberCallsMembers.{does}
 use Rattle.object_values.specs.declared.value.Value.{Value}
@@ -22,7 +22,7 @@ use Rattle.number_ops.specs.Outcomes as outcomes
 use Rattle.pl_code.specs.declared.code.Instruction.{Instruction}
 use Rattle.typed_tree.specs.declared.operation.Member.{Member}
 use Rattle.run_state.specs.Calls.{suits_member, wrong_class}
-use Rattle.run_state.specs.World.{Limits, Outcome, Given, Raised, Full, acts_in, Counted, Counts, Passes, allowed_in, pay_member}
+use Rattle.run_state.specs.World.{Limits, not_told, Outcome, Given, Raised, Full, acts_in, Counted, Counts, Passes, allowed_in, pay_member}
 use Rattle.source_meaning.specs.Tree.{Programs}
 use Rattle.source_meaning.specs.Members as source
 use Rattle.source_meaning.specs.Members.{Sending, passed_layer, passed, passed_all, sends, sends_to, sent_by, sent}
@@ -173,7 +173,7 @@ module _ (funs : Programs) (codes : Codes) (limits : Limits) (c : Ctx codes) (h 
   dropped_runs q i' s e l st st' a drops f (Given value w) =
       step_to codes limits l (R value ∷ st) (record { world = w; turns = s.turns }) drops.0 (done codes limits f tt)
   dropped_runs q i' s e l st st' a drops f (Raised id w) =
-      record { by = λ r d. throws codes limits c h q i' l st' id (record { world = w; turns = s.turns }) r a (d l f) }
+      record { by = λ r d. throws codes limits c h q i' l st' id not_told (record { world = w; turns = s.turns }) r a (d l f) }
   dropped_runs q i' s e l st st' a drops f Full = record { by = ended codes limits _ }
 
   result_runs : (y : Ty-F Ty) (q : ℕ) (i' : Instruction) (s : State) (e : Env) (l st st' : List Word) → At c.body h q i'
@@ -303,14 +303,14 @@ module _ (texts : TextsName) (funs : Programs) (codes : Codes) (limits : Limits)
 
   abbrev Runs : List Representation → List Value → ℕ → State → List Word → List Word → Representation → Option ℕ → Out Value → Type 0
   Runs ks values q s l st k o out =
-      Gives funs codes limits c h g k q st (member_act codes limits o (frame codes limits c q l (push ks values st) s) c.below s.world) out
+      Gives funs codes limits c h g k q st (member_act codes limits (allowed_in limits c.text) o (frame codes limits c q l (push ks values st) s) c.below s.world) out
 
   -- a member's call, whose parts are represented as it takes them
   pub member_runs : (sort : MemberKind) (member : Member) (ks : List Representation) (of : Ty) → MemberFits sort member ks of
       → (values : List Value) (q : ℕ) (i' : Instruction) (s : State) (e : Env) (l st : List Word)
       → At c.body h q i' → AllAt c.body h (suc q) (without_null (representation_of of)) → length ks ≡ length values → Fits c.body g e l
       → Gives funs codes limits c h g (representation_of of) q st
-      (member_act codes limits (named_by sort (allowed_in limits c.text) member.text) (frame codes limits c q l (push ks values st) s) c.below s.world)
+      (member_act codes limits (allowed_in limits c.text) (named_by sort (allowed_in limits c.text) member.text) (frame codes limits c q l (push ks values st) s) c.below s.world)
       (of_member funs limits m member values (place codes limits c) s e)
   member_runs sort member ks of fits values q i' s e l st a drops count f = allowed (flag (allowed_in limits c.text).members member.number) refl
     where
@@ -324,7 +324,7 @@ module _ (texts : TextsName) (funs : Programs) (codes : Codes) (limits : Limits)
           (ap (λ sort. with_receiver sort (map representation_of t.params)) fits.sort ∙ sym fits.parts) (params_present member.number t fits.is) count
 
       numbered : Runs ks values q s l st (representation_of t.result) (Some member.number)
-          (member_called funs limits m (sent (member_at member.number) values) member.number (member_at member.number) (place codes limits c) s e)
+          (member_called funs limits m (sent (member_in (allowed_in limits c.text) member.number) values) member.number (member_in (allowed_in limits c.text) member.number) (place codes limits c) s e)
       numbered =
           subst (λ (t' : MemberType). Gives funs codes limits c h g (representation_of t.result) q st
           (on_words (take_words (count_of t') (push ks values st) []) (λ words stack.
@@ -332,10 +332,10 @@ module _ (texts : TextsName) (funs : Programs) (codes : Codes) (limits : Limits)
           (member_called funs limits m (sent t' values) member.number t' (place codes limits c) s e)) (sym (stands_at member.number t fits.is)) taken_off
 
       allowed : (x : Bool) → flag (allowed_in limits c.text).members member.number ≡ x
-          → Runs ks values q s l st (representation_of of) (named_by sort (allowed_in limits c.text) member.text) (member_applied funs limits m x member.number values (place codes limits c) s e)
+          → Runs ks values q s l st (representation_of of) (named_by sort (allowed_in limits c.text) member.text) (member_applied funs limits m (allowed_in limits c.text) x member.number values (place codes limits c) s e)
       allowed false is = record { by = tt }
       allowed true is =
           subst (λ k. Runs ks values q s l st k (named_by sort (allowed_in limits c.text) member.text)
-          (member_applied funs limits m true member.number values (place codes limits c) s e)) (sym fits.gives)
-          (subst (λ o. Runs ks values q s l st (representation_of t.result) o (member_applied funs limits m true member.number values (place codes limits c) s e))
+          (member_applied funs limits m (allowed_in limits c.text) true member.number values (place codes limits c) s e)) (sym fits.gives)
+          (subst (λ o. Runs ks values q s l st (representation_of t.result) o (member_applied funs limits m (allowed_in limits c.text) true member.number values (place codes limits c) s e))
           (sym (text_names sort member t fits.is fits.sort fits.text is)) numbered)

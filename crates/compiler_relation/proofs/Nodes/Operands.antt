@@ -12,7 +12,7 @@ use Rattle.arithmetic.specs.Operators.{truth, some_of}
 use Rattle.arithmetic.specs.Arithmetic.{quotient_of, remainder_of}
 use Rattle.number_ops.specs.Outcomes.{effect, zero_divisor}
 use Rattle.pl_code.specs.declared.kinds.Width.TheVariants as width
-use Rattle.run_state.specs.World.{Limits, Outcome, Given, Raised, Full, acts_in}
+use Rattle.run_state.specs.World.{Limits, not_told, Outcome, Given, Raised, Full, acts_in}
 use Rattle.source_meaning.specs.Tree.{Programs}
 use Rattle.source_meaning.specs.Operating.{Operand, AnInt, ALong, AFlag, NoOperand, operand_of, Operands, OneInt, TwoInts, OneLong, TwoLongs, LongAndInt, OneFlag, TwoFlags, NoOperands, operands_of, one_operand, two_operands, of_ints, of_longs, of_flags, number_given, number_operated, flag_operated}
 use Rattle.source_meaning.specs.Meaning.{State, Env, operated}
@@ -112,7 +112,7 @@ module _ (funs : Programs) (codes : Codes) (limits : Limits) (c : Ctx codes) (h 
   outcome_runs q i' s e l st st' k word representation a f (Given value w) =
       subst (λ o. Sim codes limits c h g (land_value funs codes limits c k (suc q) st) Any (at codes limits c (suc q) l (pushed o st) (record { world = w; turns = s.turns })) (meaning.Done value (record { world = w; turns = s.turns }) e))
       (sym (representation value)) (done codes limits f tt)
-  outcome_runs q i' s e l st st' k word representation a f (Raised id w) = record { by = λ r d. throws codes limits c h q i' l st' id (record { world = w; turns = s.turns }) r a (d l f) }
+  outcome_runs q i' s e l st st' k word representation a f (Raised id w) = record { by = λ r d. throws codes limits c h q i' l st' id not_told (record { world = w; turns = s.turns }) r a (d l f) }
   outcome_runs q i' s e l st st' k word representation a f Full = record { by = ended codes limits _ }
 
   -- a quotient or a remainder, or a zero divisor

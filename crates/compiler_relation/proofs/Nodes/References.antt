@@ -21,7 +21,7 @@ use Rattle.number_ops.specs.value_walks_declared.equality.Walked.TheVariants.{On
 use Rattle.pl_code.specs.declared.code.Instruction.{Instruction}
 use Rattle.typed_tree.specs.declared.operation.Operator.{Operator}
 use Rattle.typed_tree.specs.declared.operation.Operator.TheVariants as operator
-use Rattle.run_state.specs.World.{Limits, acts_in}
+use Rattle.run_state.specs.World.{Limits, not_told, acts_in}
 use Rattle.source_meaning.specs.Tree.{Programs}
 use Rattle.source_meaning.specs.Operating.{Meaningless, operands_of, negated, of_references, reference_operated, operates}
 use Rattle.source_meaning.specs.Meaning.{State, Env, Out, Done, bind, operated}
@@ -110,7 +110,7 @@ module _ (funs : Programs) (codes : Codes) (limits : Limits) (c : Ctx codes) (h 
       → Sim codes limits c h g land good (on_outcome codes limits (acts_in s.world x) word (frame codes limits c q l st' s) c.below s.world st) (meaning.effect (acts_in s.world x) s e)
   unfolding acts_in
   raises q i' s e l st st' word a f (Gives value store) alone = absurd alone
-  raises q i' s e l st st' word a f (Throws id store) alone = record { by = λ r d. throws codes limits c h q i' l st' id _ r a (d l f) }
+  raises q i' s e l st st' word a f (Throws id store) alone = record { by = λ r d. throws codes limits c h q i' l st' id not_told _ r a (d l f) }
   raises q i' s e l st st' word a f NoRoom alone = record { by = ended codes limits _ }
 
   -- the same of `throw`
@@ -119,7 +119,7 @@ module _ (funs : Programs) (codes : Codes) (limits : Limits) (c : Ctx codes) (h 
       → Sim codes limits c h g land good (on_thrown codes limits (acts_in s.world x) (frame codes limits c q l st' s) c.below s.world) (bind (meaning.effect (acts_in s.world x) s e) k)
   unfolding acts_in
   throw_does q i' s e l st' a f k (Gives value store) alone = absurd alone
-  throw_does q i' s e l st' a f k (Throws id store) alone = record { by = λ r d. throws codes limits c h q i' l st' id _ r a (d l f) }
+  throw_does q i' s e l st' a f k (Throws id store) alone = record { by = λ r d. throws codes limits c h q i' l st' id not_told _ r a (d l f) }
   throw_does q i' s e l st' a f k NoRoom alone = record { by = ended codes limits _ }
 
   -- a truth value is turned round

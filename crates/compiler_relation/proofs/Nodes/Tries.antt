@@ -6,7 +6,7 @@ use Rattle.pl_types.specs.declared.ty.Ty.TheVariants as t
 use Rattle.object_values.specs.declared.object.Object.{Object}
 use Rattle.object_values.specs.declared.object.Object.TheVariants as o
 use Rattle.object_values.specs.declared.value.Value.TheVariants as v
-use Rattle.run_state.specs.World.{World, Limits, End}
+use Rattle.run_state.specs.World.{World, Limits, Arose, End}
 use Rattle.source_meaning.specs.Tree.{Try, Stmts, Catches, NoCatch, Catch, Programs, functions_in}
 use Rattle.source_meaning.specs.Falls.{any_falls, catches_continue}
 use Rattle.source_meaning.specs.Meaning.{State, Env, Out, Done, Thrown, Over, More, Flow, Meaning, leave, is_of_class, caught, handled, stmt_of}
@@ -55,12 +55,12 @@ module _ (funs : Programs) (codes : Codes) (limits : Limits) (m : Meaning) (ih :
   -- what is thrown in a block goes to its catches
   handling : (catches : Catches) (c : Ctx codes) (h own : Handlers) (g : Scope) (land : Flow → State → List Word → Next) (good : Flow → Type 0) (n : Next) (out : Out Flow)
       → Follows codes limits c (own ++ h) g land good n out
-      → ((id : ℕ) (s : State) (e : Env) (l : List Word) → Fits c.body g e l → Sim codes limits c h g land good (thrown codes limits c (own ++ h) id s l) (caught funs limits m (place codes limits c) catches id s e))
+      → ((id : ℕ) (arose : Arose) (s : State) (e : Env) (l : List Word) → Fits c.body g e l → Sim codes limits c h g land good (thrown codes limits c (own ++ h) id arose s l) (caught funs limits m (place codes limits c) catches id arose s e))
       → Follows codes limits c h g land good n (handled funs limits m (place codes limits c) catches out)
   handling catches c h own g land good n (Done flow s e) d f = d
-  handling catches c h own g land good n (Thrown id s e) d f =
-      through codes limits c h g land good n (λ l. Fits c.body g e l) (λ l. thrown codes limits c (own ++ h) id s l) (caught funs limits m (place codes limits c) catches id s e) d (λ l x. (f id s e l x).by)
-  handling catches c h own g land good n (Over limit w) d f = d
+  handling catches c h own g land good n (Thrown id arose s e) d f =
+      through codes limits c h g land good n (λ l. Fits c.body g e l) (λ l. thrown codes limits c (own ++ h) id arose s l) (caught funs limits m (place codes limits c) catches id arose s e) d (λ l x. (f id arose s e l x).by)
+  handling catches c h own g land good n (Over limit arose w) d f = d
   handling catches c h own g land good n More d f = d
 
   -- behind a catch: over those that follow it
@@ -71,14 +71,14 @@ module _ (funs : Programs) (codes : Codes) (limits : Limits) (m : Meaning) (ih :
   behind c h j q to body (Catch class x next rest) a same flow s l r good k = over funs codes limits m ih c h (all_fall body) j q to (any_continues body) a flow s l r good k
 
   -- an exception at the catches
-  caught_runs : (catches : Catches) (c : Ctx codes) (h : Handlers) (g : Scope) (n : ℕ) (j : Jumps) (to p id : ℕ) (s : State) (e : Env) (l : List Word)
+  caught_runs : (catches : Catches) (c : Ctx codes) (h : Handlers) (g : Scope) (n : ℕ) (j : Jumps) (to p id : ℕ) (arose : Arose) (s : State) (e : Env) (l : List Word)
       → CatchesAt (functions_in funs c.text) c.body h (representation_of c.result) g n j to p catches → to ≡ end_catches p catches → Under n g → Fits c.body g e l
-      → Sim codes limits c h g (land_flow funs codes limits c j to) (Good (any_falls catches) (catches_continue catches)) (thrown codes limits c (handlers_of p catches ++ h) id s l)
-      (caught funs limits m (place codes limits c) catches id s e)
-  caught_runs NoCatch c h g n j to p id s e l stands same under f = record { by = λ r k. k l f }
-  caught_runs (Catch class x body rest) c h g n j to p id s e l stands same under f =
+      → Sim codes limits c h g (land_flow funs codes limits c j to) (Good (any_falls catches) (catches_continue catches)) (thrown codes limits c (handlers_of p catches ++ h) id arose s l)
+      (caught funs limits m (place codes limits c) catches id arose s e)
+  caught_runs NoCatch c h g n j to p id arose s e l stands same under f = record { by = λ r k. k l f }
+  caught_runs (Catch class x body rest) c h g n j to p id arose s e l stands same under f =
       pick (is_of_class class (slice_get s.world.store.objects id)) (is_instance (Some class) id s.world) (taken_alike class id s.world)
-      (caught_runs rest c h g (next_stmts (suc n) body) j to (end_caught p body rest) id s e l stands.4 same (under_more n (next_stmts (suc n) body) g (nexts_grow n (suc n) body (omega arith)) under) f)
+      (caught_runs rest c h g (next_stmts (suc n) body) j to (end_caught p body rest) id arose s e l stands.4 same (under_more n (next_stmts (suc n) body) g (nexts_grow n (suc n) body (omega arith)) under) f)
     where
       y : Entry
       y = record { name = x; of = t.Class class; local = n }
@@ -105,7 +105,7 @@ module _ (funs : Programs) (codes : Codes) (limits : Limits) (m : Meaning) (ih :
       lands_on codes limits (over funs codes limits m ih c (own ++ h) (all_fall body) j (end_stmts p body) to (any_continues body) stands.1) (good_left (all_fall body) (any_falls catches) (any_continues body) (catches_continue catches))
       (ih.stmts body c (own ++ h) g n j p s e l stands.0 under f) in
       record {
-        by = handling catches c h own g _ _ _ _ block.by (λ id s e l f.
+        by = handling catches c h own g _ _ _ _ block.by (λ id arose s e l f.
             lands_on codes limits (λ flow s l r good k. k) (good_right (all_fall body) (any_falls catches) (any_continues body) (catches_continue catches))
-            (caught_runs catches c h g (next_stmts n body) j to (end_tried p body) id s e l stands.2 refl (under_more n (next_stmts n body) g (nexts_grow n n body (omega arith)) under) f));
+            (caught_runs catches c h g (next_stmts n body) j to (end_tried p body) id arose s e l stands.2 refl (under_more n (next_stmts n body) g (nexts_grow n n body (omega arith)) under) f));
       }

@@ -60,11 +60,11 @@ key by i = index_as t.Def by i
 
 -- the member that reads an element of a list or a map
 abbrev pub get_of : AllowList → ℕ → ℕ → Out ℕ
-get_of allow at c = wanted kind.Instance at (member_of allow c (codes "get") 1)
+get_of allow at c = wanted allow kind.Instance at (member_of allow c (codes "get") 1)
 
 -- `get` of a list or a map, with what is given to it
 abbrev pub got : AllowList → Access → ℕ → ℕ → Part → Part → Out Part
-got allow access at c x i = bind (get_of allow at c) (λ number. bind (instance_call access at number x (i ∷ [])) (λ y. Ok (plainly y)))
+got allow access at c x i = bind (get_of allow at c) (λ number. bind (instance_call allow access at number x (i ∷ [])) (λ y. Ok (plainly y)))
 
 abbrev pub element_node : ℕ → Ty → Operation → Part → Typed → Part
 element_node at of operation x y = plain at (applied at of operation (x.typed ∷ y ∷ []))

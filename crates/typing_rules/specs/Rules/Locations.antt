@@ -7,7 +7,7 @@ use Rattle.pl_types.specs.declared.ty.Ty.TheVariants as t
 use Rattle.pl_types.specs.declared.rules.TheConstants.{UNKNOWN_MEMBER}
 use Rattle.allowlist.specs.declared.member.MemberKind.TheVariants as kind
 use Rattle.allowlist.specs.Allow.{AllowList, member_of}
-use Rattle.allowlist.specs.Index.{member_at}
+use Rattle.allowlist.specs.Index.{member_in}
 use Rattle.typed_tree.specs.declared.operation.Operation.{Operation}
 use Rattle.typed_tree.specs.declared.operation.Operation.TheVariants as o
 use Rattle.typed_tree.specs.declared.operation.Operator.TheVariants as operator
@@ -36,18 +36,18 @@ abbrev pub read_if : Option ℕ → Out ℕ → Out (Option ℕ)
 read_if None found = Ok None
 read_if (Some at) found = bind found (λ number. Ok (Some number))
 
-abbrev pub instance_if : Option ℕ → Option Operation
-instance_if None = None
-instance_if (Some number) = Some (o.Instance (member number))
+abbrev pub instance_if : AllowList → Option ℕ → Option Operation
+instance_if allow None = None
+instance_if allow (Some number) = Some (o.Instance (member allow number))
 
 -- the type of what is read; where nothing is, that of what is written
-abbrev pub given_by : Option ℕ → Ty → Ty
-given_by None takes = takes
-given_by (Some number) takes = result number
+abbrev pub given_by : AllowList → Option ℕ → Ty → Ty
+given_by allow None takes = takes
+given_by allow (Some number) takes = result allow number
 
 -- what a member reads, if one does, and another writes
-abbrev pub held_by : Option ℕ → ℕ → List Typed → Ty → Place
-held_by read write parts takes = place.Written (record { target = target.Place (instance_if read) (o.Instance (member write)); parts = parts; gives = given_by read takes; takes = takes })
+abbrev pub held_by : AllowList → Option ℕ → ℕ → List Typed → Ty → Place
+held_by allow read write parts takes = place.Written (record { target = target.Place (instance_if allow read) (o.Instance (member allow write)); parts = parts; gives = given_by allow read takes; takes = takes })
 
 -- ---- elements in brackets
 
@@ -55,10 +55,10 @@ abbrev pub in_array : Option ℕ → Ty → Part → Part → Out Place
 in_array by of x i = bind (position by i) (λ y. Ok (held by (o.Operator operator.Element) (o.Operator operator.PutElement) (x.typed ∷ y ∷ []) of of))
 
 abbrev pub set_of : AllowList → ℕ → ℕ → Out ℕ
-set_of allow at c = wanted kind.Instance at (member_of allow c (codes "set") 2)
+set_of allow at c = wanted allow kind.Instance at (member_of allow c (codes "set") 2)
 
 abbrev pub put_of : AllowList → ℕ → ℕ → Out ℕ
-put_of allow at c = wanted kind.Instance at (member_of allow c (codes "put") 2)
+put_of allow at c = wanted allow kind.Instance at (member_of allow c (codes "put") 2)
 
 abbrev pub in_list : AllowList → Option ℕ → ℕ → ℕ → Part → Part → Out Place
 in_list allow by at c x i =
@@ -68,7 +68,7 @@ in_list allow by at c x i =
 -- a key of a map
 abbrev pub in_map : AllowList → Option ℕ → ℕ → ℕ → Part → Part → Out Place
 in_map allow by at c x i =
-    bind (read_if by (get_of allow at c)) (λ read. bind (put_of allow at c) (λ write. bind (key by i) (λ y. Ok (held_by read write (x.typed ∷ y ∷ []) t.Def))))
+    bind (read_if by (get_of allow at c)) (λ read. bind (put_of allow at c) (λ write. bind (key by i) (λ y. Ok (held_by allow read write (x.typed ∷ y ∷ []) t.Def))))
 
 abbrev pub in_def : Option ℕ → Part → Part → Out Place
 in_def by x i = bind (key by i) (λ y. Ok (held by o.DefIndex o.PutDefIndex (x.typed ∷ y ∷ []) t.Def t.Def))
@@ -97,13 +97,13 @@ abbrev pub first_of : List Ty → Ty
 first_of [] = t.Def
 first_of (of ∷ others) = of
 
-abbrev pub taken_by : ℕ → Ty
-taken_by number = first_of (member_at number).params
+abbrev pub taken_by : AllowList → ℕ → Ty
+taken_by allow number = first_of (member_in allow number).params
 
 abbrev pub by_accessors : AllowList → Option ℕ → ℕ → List ℕ → ℕ → Part → Out Place
 by_accessors allow by at name c x =
-    bind (read_if by (wanted kind.Instance at (getter allow c name))) (λ read. bind (wanted kind.Instance at (setter allow c name)) (λ write.
-    Ok (held_by read write (x.typed ∷ []) (taken_by write))))
+    bind (read_if by (wanted allow kind.Instance at (getter allow c name))) (λ read. bind (wanted allow kind.Instance at (setter allow c name)) (λ write.
+    Ok (held_by allow read write (x.typed ∷ []) (taken_by allow write))))
 
 abbrev pub name_in_class : AllowList → ℕ → Option ℕ → ℕ → List ℕ → Part → Out Place
 name_in_class allow c by at name x = if is_map c then in_map allow by at c x (text_part at name) else by_accessors allow by at name c x
@@ -130,7 +130,7 @@ name_location allow by at name x = name_layer allow (out-Ty (type_of_part x)) by
 -- an element of a list by its number, which does not count from the end
 abbrev pub number_in_list : AllowList → Option ℕ → ℕ → ℕ → Part → Part → Out Place
 number_in_list allow by at c x i =
-    bind (read_if by (get_of allow at c)) (λ read. bind (set_of allow at c) (λ write. bind (position by i) (λ y. Ok (held_by read write (x.typed ∷ y ∷ []) t.Def))))
+    bind (read_if by (get_of allow at c)) (λ read. bind (set_of allow at c) (λ write. bind (position by i) (λ y. Ok (held_by allow read write (x.typed ∷ y ∷ []) t.Def))))
 
 abbrev pub number_in_class : AllowList → ℕ → Option ℕ → ℕ → List ℕ → Part → Out Place
 number_in_class allow c by at digits x =

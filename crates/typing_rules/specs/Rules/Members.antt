@@ -12,7 +12,7 @@ use Rattle.allowlist.specs.declared.member.MemberKind.TheVariants as kind
 use Rattle.allowlist.specs.declared.member.MemberType.{MemberType}
 use Rattle.allowlist.specs.Allow.{AllowList, own_member, member_of, has_name, is_in_prelude}
 use Rattle.allowlist.specs.Catalogue.{catalogue}
-use Rattle.allowlist.specs.Index.{member_at}
+use Rattle.allowlist.specs.Index.{member_in}
 use Rattle.member_names.specs.Names.{text_of}
 use Rattle.typed_tree.specs.declared.operation.Member.{Member}
 use Rattle.typed_tree.specs.declared.operation.Operation.{Operation}
@@ -40,8 +40,8 @@ is_open of = is_void of || is_built of
 abbrev pub is_open_member : MemberType → Bool
 is_open_member m = is_built_class m.owner && (list_all is_open m.params && is_open m.result)
 
-abbrev pub is_open_at : ℕ → Bool
-is_open_at number = is_open_member (member_at number)
+abbrev pub is_open_at : AllowList → ℕ → Bool
+is_open_at allow number = is_open_member (member_in allow number)
 
 -- a member of the kind that is wanted
 abbrev pub is_kind : MemberKind → MemberKind → Bool
@@ -51,19 +51,19 @@ is_kind kind.Instance kind.Instance = true
 is_kind kind.Field kind.Field = true
 is_kind _ _ = false
 
-abbrev pub wanted_as : MemberKind → ℕ → ℕ → Out ℕ
-wanted_as kind at number =
-    if is_kind kind (member_at number).kind
-    then (if is_open_at number then Ok number else refuse OUT_OF_PROFILE at)
+abbrev pub wanted_as : AllowList → MemberKind → ℕ → ℕ → Out ℕ
+wanted_as allow kind at number =
+    if is_kind kind (member_in allow number).kind
+    then (if is_open_at allow number then Ok number else refuse OUT_OF_PROFILE at)
     else refuse UNKNOWN_MEMBER at
 
 -- what is found counts where it is of the kind that is wanted; a member that is farther above is not looked at
-abbrev pub wanted : MemberKind → ℕ → Option ℕ → Out ℕ
-wanted kind at None = refuse UNKNOWN_MEMBER at
-wanted kind at (Some number) = wanted_as kind at number
+abbrev pub wanted : AllowList → MemberKind → ℕ → Option ℕ → Out ℕ
+wanted allow kind at None = refuse UNKNOWN_MEMBER at
+wanted allow kind at (Some number) = wanted_as allow kind at number
 
-abbrev pub member : ℕ → Member
-member number = record { number = number; text = text_of (member_at number) }
+abbrev pub member : AllowList → ℕ → Member
+member allow number = record { number = number; text = text_of (member_in allow number) }
 
 -- each argument cast to its parameter's type
 abbrev pub cast_all : List Ty → List Part → Out (List Typed)
@@ -71,22 +71,22 @@ cast_all (t ∷ ts) (x ∷ xs) = bind (cast_to t x) (λ y. bind (cast_all ts xs)
 cast_all _ _ = Ok []
 
 -- the arguments of a member's call
-abbrev pub member_arguments : ℕ → List Part → Out (List Typed)
-member_arguments number xs = cast_all (member_at number).params xs
+abbrev pub member_arguments : AllowList → ℕ → List Part → Out (List Typed)
+member_arguments allow number xs = cast_all (member_in allow number).params xs
 
 -- what a call behind `?.` gives may be null, and so is no primitive
 abbrev pub guards : Access → Bool
 guards access.Plain = false
 guards access.Guarded = true
 
-abbrev pub gives_primitive : ℕ → Bool
-gives_primitive number = is_primitive (primitive_of (member_at number).result)
+abbrev pub gives_primitive : AllowList → ℕ → Bool
+gives_primitive allow number = is_primitive (primitive_of (member_in allow number).result)
 
-abbrev pub nullable : Access → ℕ → ℕ → Part → Out Part
-nullable access at number x = if guards access && gives_primitive number then refuse BAD_NULLABLE at else Ok x
+abbrev pub nullable : AllowList → Access → ℕ → ℕ → Part → Out Part
+nullable allow access at number x = if guards access && gives_primitive allow number then refuse BAD_NULLABLE at else Ok x
 
-abbrev pub result : ℕ → Ty
-result number = (member_at number).result
+abbrev pub result : AllowList → ℕ → Ty
+result allow number = (member_in allow number).result
 
 -- ---- calls on a value
 
@@ -95,15 +95,15 @@ abbrev pub accessed : Access → Operation → List Typed → Node
 accessed access.Plain operation parts = n.Apply operation parts
 accessed access.Guarded operation parts = n.Guarded operation parts
 
-abbrev pub instance_node : Access → ℕ → ℕ → List Typed → Part
-instance_node access at number ys = part at f.Deed (typed at (result number) (accessed access (o.Instance (member number)) ys))
+abbrev pub instance_node : AllowList → Access → ℕ → ℕ → List Typed → Part
+instance_node allow access at number ys = part at f.Deed (typed at (result allow number) (accessed access (o.Instance (member allow number)) ys))
 
-abbrev pub instance_call : Access → ℕ → ℕ → Part → List Part → Out Part
-instance_call access at number x xs = bind (member_arguments number xs) (λ ys. nullable access at number (instance_node access at number (x.typed ∷ ys)))
+abbrev pub instance_call : AllowList → Access → ℕ → ℕ → Part → List Part → Out Part
+instance_call allow access at number x xs = bind (member_arguments allow number xs) (λ ys. nullable allow access at number (instance_node allow access at number (x.typed ∷ ys)))
 
 abbrev pub instance_named : AllowList → Access → ℕ → List ℕ → ℕ → Part → List Part → Out Part
 instance_named allow access at name class x xs =
-    bind (wanted kind.Instance at (member_of allow class name (length xs))) (λ number. instance_call access at number x xs)
+    bind (wanted allow kind.Instance at (member_of allow class name (length xs))) (λ number. instance_call allow access at number x xs)
 
 -- a member that the prelude has, which is not built
 abbrev pub is_prelude_member : List ℕ → ℕ → MemberType → Bool
@@ -129,14 +129,14 @@ method_of allow access at name x xs = called_layer allow (out-Ty (type_of_part x
 
 -- ---- calls on a class; `?.` guards nothing there
 
-abbrev pub static_node : ℕ → ℕ → List Typed → Part
-static_node at number ys = part at f.Deed (applied at (result number) (o.Static (member number)) ys)
+abbrev pub static_node : AllowList → ℕ → ℕ → List Typed → Part
+static_node allow at number ys = part at f.Deed (applied at (result allow number) (o.Static (member allow number)) ys)
 
-abbrev pub static_call : Access → ℕ → ℕ → List Part → Out Part
-static_call access at number xs = bind (member_arguments number xs) (λ ys. nullable access at number (static_node at number ys))
+abbrev pub static_call : AllowList → Access → ℕ → ℕ → List Part → Out Part
+static_call allow access at number xs = bind (member_arguments allow number xs) (λ ys. nullable allow access at number (static_node allow at number ys))
 
 abbrev pub static_layer : AllowList → Ty-F Ty → Access → ℕ → List ℕ → List Part → Out Part
-static_layer allow (Ty-F.Class c) access at name xs = bind (wanted kind.Static at (member_of allow c name (length xs))) (λ number. static_call access at number xs)
+static_layer allow (Ty-F.Class c) access at name xs = bind (wanted allow kind.Static at (member_of allow c name (length xs))) (λ number. static_call allow access at number xs)
 static_layer allow _ access at name xs = refuse UNKNOWN_MEMBER at
 
 abbrev pub static_of : AllowList → Access → ℕ → List ℕ → Ty → List Part → Out Part
@@ -144,12 +144,12 @@ static_of allow access at name of xs = static_layer allow (out-Ty of) access at 
 
 -- ---- `new`
 
-abbrev pub constructed : ℕ → ℕ → List Part → Out Part
-constructed at number xs = bind (member_arguments number xs) (λ ys. Ok (part at f.Deed (applied at (result number) (o.Constructor (member number)) ys)))
+abbrev pub constructed : AllowList → ℕ → ℕ → List Part → Out Part
+constructed allow at number xs = bind (member_arguments allow number xs) (λ ys. Ok (part at f.Deed (applied at (result allow number) (o.Constructor (member allow number)) ys)))
 
 -- a constructor is the class's own
 abbrev pub new_layer : AllowList → Ty-F Ty → ℕ → List Part → Out Part
-new_layer allow (Ty-F.Class c) at xs = bind (wanted kind.Constructor at (own_member allow c [] (length xs))) (λ number. constructed at number xs)
+new_layer allow (Ty-F.Class c) at xs = bind (wanted allow kind.Constructor at (own_member allow c [] (length xs))) (λ number. constructed allow at number xs)
 new_layer allow _ at xs = refuse UNKNOWN_MEMBER at
 
 abbrev pub new_of : AllowList → ℕ → Ty → List Part → Out Part
@@ -179,14 +179,14 @@ plainly x = plain x.at x.typed
 -- what a name of a value means: its getter, which is no statement
 abbrev pub read_named : AllowList → Access → ℕ → List ℕ → ℕ → Part → Out Part
 read_named allow access at name class x =
-    bind (wanted kind.Instance at (getter allow class name)) (λ number. bind (instance_call access at number x []) (λ y. Ok (plainly y)))
+    bind (wanted allow kind.Instance at (getter allow class name)) (λ number. bind (instance_call allow access at number x []) (λ y. Ok (plainly y)))
 
 -- a field of a class
-abbrev pub field_node : ℕ → ℕ → Part
-field_node at number = plain at (applied at (result number) (o.Field (member number)) [])
+abbrev pub field_node : AllowList → ℕ → ℕ → Part
+field_node allow at number = plain at (applied at (result allow number) (o.Field (member allow number)) [])
 
 abbrev pub field_layer : AllowList → Ty-F Ty → Access → ℕ → List ℕ → Out Part
-field_layer allow (Ty-F.Class c) access at name = bind (wanted kind.Field at (member_of allow c name 0)) (λ number. nullable access at number (field_node at number))
+field_layer allow (Ty-F.Class c) access at name = bind (wanted allow kind.Field at (member_of allow c name 0)) (λ number. nullable allow access at number (field_node allow at number))
 field_layer allow _ access at name = refuse UNKNOWN_MEMBER at
 
 abbrev pub field_of : AllowList → Access → ℕ → List ℕ → Ty → Out Part

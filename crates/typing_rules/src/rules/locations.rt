@@ -60,7 +60,7 @@ fn instance_if(
     number: Option<u32>,
 ) -> Result<Option<Operation>, AllocError>
     requires { IfSome number (λ number. number < length allow.now.members) }
-    ensures { IfOk result (λ read. read ≡ spec.instance_if number) }
+    ensures { IfOk result (λ read. read ≡ spec.instance_if allow.now number) }
 {
     match number {
         None => Ok(None),
@@ -74,7 +74,7 @@ fn instance_if(
 /// The type of what is read; where nothing is, that of what is written.
 fn given_by(alloc: Global, allow: &Allow, number: Option<u32>, takes: &Ty) -> Result<Ty, AllocError>
     requires { IfSome number (λ number. number < length allow.now.members) }
-    ensures { IfOk result (λ of. of ≡ spec.given_by number takes.now) }
+    ensures { IfOk result (λ of. of ≡ spec.given_by allow.now number takes.now) }
 {
     match number {
         None => takes.share(alloc),
@@ -93,7 +93,7 @@ fn held_by(
 ) -> Result<Place, Fail>
     requires read { IfSome read (λ number. number < length allow.now.members) }
     requires write { write < length allow.now.members }
-    ensures { Keeps (Ok (spec.held_by read write parts takes)) result }
+    ensures { Keeps (Ok (spec.held_by allow.now read write parts takes)) result }
 {
     let gives = given_by(alloc, allow, read, &takes)?;
     let read = instance_if(alloc, allow, read)?;
@@ -261,7 +261,7 @@ pub fn index_location(
 /// What a member takes first.
 fn taken_by(alloc: Global, allow: &Allow, number: u32) -> Result<Ty, AllocError>
     requires { number < length allow.now.members }
-    ensures { IfOk result (λ of. of ≡ spec.taken_by number) }
+    ensures { IfOk result (λ of. of ≡ spec.taken_by allow.now number) }
 {
     match member_at(allow, number).params.as_slice() {
         [] => Ok(Ty::Def),
@@ -277,7 +277,7 @@ fn getter_if(
     name: &Text,
     class: u32,
 ) -> Result<Option<u32>, Fail>
-    ensures rule { Keeps (spec.read_if by (members.wanted kind.Instance at (members.getter allow.now class name.now))) result }
+    ensures rule { Keeps (spec.read_if by (members.wanted allow.now kind.Instance at (members.getter allow.now class name.now))) result }
     ensures within { IfOk result (λ read. IfSome read (λ number. number < length allow.now.members)) }
 {
     match by {

@@ -1,9 +1,9 @@
-//! Which member of the catalogue a name means.
+//! Which member of a list a name means.
 
 ghost use Rattle.std.specs.Prelude.{◌≡◌, ◌<◌, [], IfOk, IfSome, length};
 ghost use Rattle.std.specs.List.{list_all};
 ghost use Rattle.allowlist.specs.Allow.{own_member, member_of, is_in_prelude};
-ghost use Rattle.allowlist.specs.Index.{member_at};
+ghost use Rattle.allowlist.specs.Index.{member_in};
 ghost use Rattle.typing_rules.specs.Outcomes.{Keeps};
 ghost use Rattle.typing_rules.specs.Rules.Locations as locations;
 ghost use Rattle.typing_rules.specs.Rules.Members as spec;
@@ -15,10 +15,10 @@ use allowlist::{Accessor, Allow, MemberKind, MemberType, Origin};
 use pl_types::{Fail, Ty, rules};
 use plain_data::Text;
 
-/// The member of the catalogue with a number.
+/// The member of a list with a number.
 pub(crate) fn member_at(allow: &Allow, number: u32) -> &MemberType
     requires { number < length allow.now.members }
-    ensures { result.now ≡ member_at number }
+    ensures { result.now ≡ member_in allow.now number }
 {
     allow.member_type(number)
 }
@@ -105,7 +105,7 @@ fn is_open_member(member: &MemberType) -> bool
 /// Whether the member of a number is built.
 fn is_open_at(allow: &Allow, number: u32) -> bool
     requires { number < length allow.now.members }
-    ensures { result ≡ spec.is_open_at number }
+    ensures { result ≡ spec.is_open_at allow.now number }
 {
     is_open_member(member_at(allow, number))
 }
@@ -124,7 +124,7 @@ fn is_kind(wanted: MemberKind, kind: MemberKind) -> bool
 
 fn wanted_as(allow: &Allow, kind: MemberKind, at: u32, number: u32) -> Result<u32, Fail>
     requires { number < length allow.now.members }
-    ensures rule { Keeps (spec.wanted_as kind at number) result }
+    ensures rule { Keeps (spec.wanted_as allow.now kind at number) result }
     ensures within { IfOk result (λ found. found < length allow.now.members) }
 {
     let member = member_at(allow, number);
@@ -147,7 +147,7 @@ pub(crate) fn wanted(
     found: Option<u32>,
 ) -> Result<u32, Fail>
     requires { IfSome found (λ number. number < length allow.now.members) }
-    ensures rule { Keeps (spec.wanted kind at found) result }
+    ensures rule { Keeps (spec.wanted allow.now kind at found) result }
     ensures within { IfOk result (λ number. number < length allow.now.members) }
 {
     match found {

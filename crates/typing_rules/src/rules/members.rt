@@ -25,10 +25,10 @@ use plain_data::{Items, Subtree, Text};
 use std::alloc::{AllocError, Global};
 use typed_tree::{Member, Node, Operation, Typed};
 
-/// What a script says of a member of the catalogue.
+/// What a script says of a member of a list.
 pub(crate) fn member(alloc: Global, allow: &Allow, number: u32) -> Result<Member, AllocError>
     requires { number < length allow.now.members }
-    ensures { IfOk result (λ member. member ≡ spec.member number) }
+    ensures { IfOk result (λ member. member ≡ spec.member allow.now number) }
 {
     let written = member_text(alloc, allow, number)?;
     let text = Text::new(alloc, written.as_str())?;
@@ -61,7 +61,7 @@ fn arguments(
     before: Items<Subtree<Typed>>,
 ) -> Result<Items<Subtree<Typed>>, Fail>
     requires { number < length allow.now.members }
-    ensures { Keeps (bind (spec.member_arguments number given.items) (λ casts. Ok (before ++ casts))) result }
+    ensures { Keeps (bind (spec.member_arguments allow.now number given.items) (λ casts. Ok (before ++ casts))) result }
 {
     let types = member_at(allow, number).params.as_slice();
     cast_all(alloc, types, given, before)
@@ -87,7 +87,7 @@ fn called(
     number: u32,
 ) -> Result<(Member, Ty), Fail>
     requires { number < length allow.now.members }
-    ensures { Keeps (if spec.guards access && spec.gives_primitive number then refuse BAD_NULLABLE at else Ok (spec.member number, spec.result number)) result }
+    ensures { Keeps (if spec.guards access && spec.gives_primitive allow.now number then refuse BAD_NULLABLE at else Ok (spec.member allow.now number, spec.result allow.now number)) result }
 {
     if guards(access) && is_primitive(&member_at(allow, number).result) {
         return Err(refuse(rules::BAD_NULLABLE, at));
@@ -109,7 +109,7 @@ pub(crate) fn meant(
     name: &Text,
     count: usize,
 ) -> Result<u32, Fail>
-    ensures rule { Keeps (spec.wanted kind at (member_of allow.now class name.now count)) result }
+    ensures rule { Keeps (spec.wanted allow.now kind at (member_of allow.now class name.now count)) result }
     ensures within { IfOk result (λ number. number < length allow.now.members) }
 {
     let Ok(arity) = u32::try_from(count) else {
@@ -138,7 +138,7 @@ fn instance_node(
     parts: Items<Subtree<Typed>>,
 ) -> Result<Part, Fail>
     requires { number < length allow.now.members }
-    ensures { Keeps (spec.nullable access at number (spec.instance_node access at number parts)) result }
+    ensures { Keeps (spec.nullable allow.now access at number (spec.instance_node allow.now access at number parts)) result }
 {
     let (member, of) = called(alloc, allow, access, at, number)?;
     let node = accessed(access, Operation::Instance(member), parts);
@@ -156,7 +156,7 @@ pub(crate) fn instance_call(
     given: Vec<Part>,
 ) -> Result<Part, Fail>
     requires { number < length allow.now.members }
-    ensures { Keeps (spec.instance_call access at number x given.items) result }
+    ensures { Keeps (spec.instance_call allow.now access at number x given.items) result }
 {
     let receiver = one_part(alloc, x.into_typed())?;
     let parts = arguments(alloc, allow, number, given, receiver)?;
@@ -250,7 +250,7 @@ fn static_call(
     given: Vec<Part>,
 ) -> Result<Part, Fail>
     requires { number < length allow.now.members }
-    ensures { Keeps (spec.static_call access at number given.items) result }
+    ensures { Keeps (spec.static_call allow.now access at number given.items) result }
 {
     let parts = arguments(alloc, allow, number, given, Items::new(alloc))?;
     let (member, of) = called(alloc, allow, access, at, number)?;
@@ -290,7 +290,7 @@ fn constructed(
     given: Vec<Part>,
 ) -> Result<Part, Fail>
     requires { number < length allow.now.members }
-    ensures { Keeps (spec.constructed at number given.items) result }
+    ensures { Keeps (spec.constructed allow.now at number given.items) result }
 {
     let parts = arguments(alloc, allow, number, given, Items::new(alloc))?;
     let (member, of) = called(alloc, allow, Access::Plain, at, number)?;
@@ -301,7 +301,7 @@ fn constructed(
 /// The constructor that a class itself has with so many arguments.
 #[tactic(auto, using(crate::proofs::Members::own_too_many))]
 fn constructor_meant(allow: &Allow, at: u32, class: u32, count: usize) -> Result<u32, Fail>
-    ensures rule { Keeps (spec.wanted kind.Constructor at (own_member allow.now class [] count)) result }
+    ensures rule { Keeps (spec.wanted allow.now kind.Constructor at (own_member allow.now class [] count)) result }
     ensures within { IfOk result (λ number. number < length allow.now.members) }
 {
     let Ok(arity) = u32::try_from(count) else {
@@ -366,7 +366,7 @@ fn field_node(
     number: u32,
 ) -> Result<Part, Fail>
     requires { number < length allow.now.members }
-    ensures { Keeps (spec.nullable access at number (spec.field_node at number)) result }
+    ensures { Keeps (spec.nullable allow.now access at number (spec.field_node allow.now at number)) result }
 {
     let (member, of) = called(alloc, allow, access, at, number)?;
     let operation = Operation::Field(member);

@@ -29,5 +29,5 @@ pub returns-clause-told : goal.returns-clause-told
 returns-clause-told g c =
     let t = c.in-Ok.ensures in
     answer_cut t.0 c.args.script.now c.in-Ok.answer (g.K.Sink.held c.args.out.now) (g.K.Sink.held c.give_all.new.out) t.1 t.2 c.quiet-in-Err-NoMemory.result c.quiet-in-Err-NoMemory.ensures.status
-    (script_once c.script_laws.ensures.answered_once c.script_laws.ensures.ends_once c.code_laws.ensures.once t.0 c.args.script.now)
+    c.quiet-in-Err-NoMemory.ensures.quiet (script_once c.script_laws.ensures.answered_once c.script_laws.ensures.ends_once c.code_laws.ensures.once t.0 c.args.script.now)
     (subst (λ (bytes : List ℕ). AppendsFront (g.K.Sink.held c.args.out.now) (g.K.Sink.held c.give_all.new.out) bytes) c.as_bytes.ensures.value c.in-Err-NoMemory.ensures.front)

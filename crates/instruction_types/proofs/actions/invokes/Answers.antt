@@ -10,5 +10,5 @@ pub returns : goal.returns
 unfolding seen_action
 returns c =
     let m = c.member_type-called.result.now in
-    invoked c.args.member m _ _ c.member_type-called.ensures
+    invoked c.args.allow.now c.args.member m _ _ c.member_type-called.ensures
     (c.arguments-takes.ensures ∙ ap (λ params. argument_kinds params ++ (if has_receiver m.kind then R ∷ [] else [])) c.as_slice.ensures) c.kind_of_type-gives.ensures

@@ -8,4 +8,4 @@ use Rattle.instruction_types.proofs.actions.makes.Goals as goal
 
 pub returns : goal.returns
 unfolding seen_action seen_takes
-returns c = ap (λ params. Exchanges (argument_kinds params) (one R)) c.as_slice.ensures ∙ made c.args.member c.member_type-made.result.now c.member_type-made.ensures
+returns c = ap (λ params. Exchanges (argument_kinds params) (one R)) c.as_slice.ensures ∙ made c.args.allow.now c.args.member c.member_type-made.result.now c.member_type-made.ensures

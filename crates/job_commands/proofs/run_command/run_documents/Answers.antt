@@ -1,30 +1,33 @@
 -- The replies are those of the job.
 use Rattle.std.proofs.Common.{List, ℕ, subst, sym}
-use Rattle.job_commands.proofs.Lines.{ready_so, passes_so, passes_nothing, passes_report}
-use Rattle.job_commands.specs.Documents.{GivesReplies, Lists, front_for, ran_by}
+use Rattle.job_file.specs.Answers.{job_view}
+use Rattle.document_replies.specs.LineRunReplies.{stateless}
+use Rattle.job_commands.specs.Contexts.{keys_in}
+use Rattle.job_commands.specs.Documents.{GivesReplies, Lists, context_seen, front_for, ran_by}
+use Rattle.job_commands.proofs.Lines.{ready_so}
+use Rattle.job_commands.proofs.RunEnds.{passes_so, passes_nothing, passes_report}
 use Rattle.job_commands.proofs.run_command.run_documents.Goals as goal
 
 pub run_lines-ran-requires : goal.run_lines-ran-requires
-run_lines-ran-requires g c =
-    ready_so c.args.kind c.args.job c.in-Ok-document_job.documents c.in-Ok-document_job.ensures c.requires.kind c.requires.rows c.requires.takes
+run_lines-ran-requires g c = ready_so c.args.context c.args.job c.document_job-documents.result c.document_job-documents.ensures c.requires.over c.requires.ready
 
 pub returns-in_default-clause-passes : goal.returns-in_default-clause-passes
 returns-in_default-clause-passes g c =
-    passes_nothing (GivesReplies c.args.kind c.args.job) (front_for c.args.job) c.args.job.found.job.limits.input (ran_by c.quiet.result) (g.S.Source.left c.args.input.now)
-    (g.K.Sink.held c.args.out.now) c.quiet.ensures.status
-
-pub returns-in_default-document_job-clause-passes : goal.returns-in_default-document_job-clause-passes
-returns-in_default-document_job-clause-passes g c =
-    passes_nothing (GivesReplies c.args.kind c.args.job) (front_for c.args.job) c.args.job.found.job.limits.input (ran_by c.quiet-in_default-document_job.result) (g.S.Source.left c.args.input.now)
-    (g.K.Sink.held c.args.out.now) c.quiet-in_default-document_job.ensures.status
+    let job = c.args.job in
+    passes_nothing (stateless (GivesReplies (context_seen (keys_in (job_view job.found.job)) c.args.context) job)) (front_for job) job.found.job.limits.input (ran_by c.quiet.result)
+    (g.S.Source.left c.args.input.now) (g.K.Sink.held c.args.out.now) c.quiet.ensures.status
 
 pub returns-clause-lists : goal.returns-clause-lists
 returns-clause-lists g c = subst (λ (l : List (List ℕ)). Lists l c.report_of.result) c.in-Ok.ensures.listings c.report_of.ensures.lists
 
 pub returns-clause-passes : goal.returns-clause-passes
 returns-clause-passes g c =
-    passes_report (GivesReplies c.args.kind c.args.job) (front_for c.args.job) c.args.job.found.job.limits.input c.run_lines-ran.result c.report_of.result (g.S.Source.left c.args.input.now)
-    (g.S.Source.left c.run_lines-ran.new.input) (g.K.Sink.held c.args.out.now) (g.K.Sink.held c.run_lines-ran.new.out) c.report_of.ensures.ran
-    (passes_so c.args.kind c.args.job c.in-Ok-document_job.documents c.in-Ok-document_job.ensures (front_for c.args.job) c.args.job.found.job.limits.input c.run_lines-ran.result
-    (g.S.Source.left c.args.input.now) (g.S.Source.left c.run_lines-ran.new.input) (g.K.Sink.held c.args.out.now) (g.K.Sink.held c.run_lines-ran.new.out)
-    (c.run_lines-ran.ensures.passes (front_for c.args.job) (sym c.in-Ok.ensures.front)))
+    let job = c.args.job in
+    let left = g.S.Source.left c.args.input.now in
+    let left' = g.S.Source.left c.run_lines-ran.new.input in
+    let old = g.K.Sink.held c.args.out.now in
+    let new = g.K.Sink.held c.run_lines-ran.new.out in
+    passes_report (stateless (GivesReplies (context_seen (keys_in (job_view job.found.job)) c.args.context) job)) (front_for job) job.found.job.limits.input c.run_lines-ran.result c.report_of.result
+    left left' old new c.report_of.ensures.ran
+    (passes_so c.args.context job c.document_job-documents.result c.document_job-documents.ensures (front_for job) job.found.job.limits.input c.run_lines-ran.result left left' old new
+    (c.run_lines-ran.ensures.passes (front_for job) (sym c.in-Ok.ensures.front)))

@@ -1,31 +1,51 @@
--- The kind of the context decides.
-use Rattle.std.proofs.Common.{sym, ◌∙◌}
-use Rattle.job_commands.specs.Documents.{GivesReplies, front_for, ran_by}
-use Rattle.job_commands.proofs.Lines.{ends_kind, ends_none}
-use Rattle.job_commands.proofs.Statuses.{passes_leave, passes_file, refused_status}
+-- The context of the job decides.
+use Rattle.std.proofs.Common.{◌≡◌, Some, None, ap, sym, ◌∙◌}
+use Rattle.std.specs.Prelude.{option_map}
+use Rattle.job_file.specs.Answers.{job_view}
+use Rattle.command_parts.proofs.Statuses.{refused_status}
+use Rattle.document_replies.specs.LineRunReplies.{stateless}
+use Rattle.job_commands.specs.Contexts.{context_in, keys_in}
+use Rattle.job_commands.specs.Documents.{GivesReplies, context_seen, front_for, ran_by}
+use Rattle.job_commands.proofs.RunEnds.{ends_lines, ends_none, ends_nothing}
+use Rattle.job_commands.proofs.Statuses.{passes_leave, passes_file}
 use Rattle.job_commands.proofs.run_command.run_prepared.Goals as goal
+
+pub returns-in_default-clause-told : goal.returns-in_default-clause-told
+returns-in_default-clause-told g c =
+    ends_nothing c.args.job c.quiet.result (g.S.Source.left c.args.input.now) (g.K.Sink.held c.args.out.now) c.quiet.ensures.status c.quiet.ensures.quiet
+
+pub run_documents-requires-clause-over : goal.run_documents-requires-clause-over
+run_documents-requires-clause-over g c = sym c.in-Ok.ensures ∙ ap (option_map (context_seen (keys_in (job_view c.args.job.found.job)))) c.in-Some.is
 
 pub returns-in-Some-clause-told : goal.returns-in-Some-clause-told
 returns-in-Some-clause-told g c =
-    ends_kind c.in-Some.kind c.args.job c.run_documents.result (g.S.Source.left c.args.input.now) (g.S.Source.left c.run_documents.new.input) (g.K.Sink.held c.args.out.now) (g.K.Sink.held c.run_documents.new.out)
-    (sym c.in-Some.ensures) c.run_documents.ensures.lists c.run_documents.ensures.passes
+    let job = c.args.job in
+    let seen = context_seen (keys_in (job_view job.found.job)) in
+    let of : context_in (job_view job.found.job) ≡ Some (seen c.in-Some.context) = sym c.in-Ok.ensures ∙ ap (option_map seen) c.in-Some.is in
+    ends_lines (seen c.in-Some.context) job c.run_documents.result (g.S.Source.left c.args.input.now) (g.S.Source.left c.run_documents.new.input) (g.K.Sink.held c.args.out.now)
+    (g.K.Sink.held c.run_documents.new.out) of c.run_documents.ensures.lists c.run_documents.ensures.passes
 
 pub returns-in-Some-clause-untouched : goal.returns-in-Some-clause-untouched
 returns-in-Some-clause-untouched g c = λ leaves.
-    absurd (passes_leave (GivesReplies c.in-Some.kind c.args.job) (front_for c.args.job) c.args.job.found.job.limits.input (ran_by c.run_documents.result) (g.S.Source.left c.args.input.now)
-    (g.S.Source.left c.run_documents.new.input) (g.K.Sink.held c.args.out.now) (g.K.Sink.held c.run_documents.new.out) c.run_documents.ensures.passes leaves)
+    let job = c.args.job in
+    absurd (passes_leave (stateless (GivesReplies (context_seen (keys_in (job_view job.found.job)) c.in-Some.context) job)) (front_for job) job.found.job.limits.input (ran_by c.run_documents.result)
+    (g.S.Source.left c.args.input.now) (g.S.Source.left c.run_documents.new.input) (g.K.Sink.held c.args.out.now) (g.K.Sink.held c.run_documents.new.out) c.run_documents.ensures.passes leaves)
 
 pub returns-in-Some-clause-quiet : goal.returns-in-Some-clause-quiet
 returns-in-Some-clause-quiet g c =
-    passes_file (GivesReplies c.in-Some.kind c.args.job) (front_for c.args.job) c.args.job.found.job.limits.input (ran_by c.run_documents.result) (g.S.Source.left c.args.input.now)
-    (g.S.Source.left c.run_documents.new.input) (g.K.Sink.held c.args.out.now) (g.K.Sink.held c.run_documents.new.out) c.run_documents.ensures.passes
+    let job = c.args.job in
+    passes_file (stateless (GivesReplies (context_seen (keys_in (job_view job.found.job)) c.in-Some.context) job)) (front_for job) job.found.job.limits.input (ran_by c.run_documents.result)
+    (g.S.Source.left c.args.input.now) (g.S.Source.left c.run_documents.new.input) (g.K.Sink.held c.args.out.now) (g.K.Sink.held c.run_documents.new.out) c.run_documents.ensures.passes
 
 pub returns-in-None-clause-told : goal.returns-in-None-clause-told
 returns-in-None-clause-told g c =
-    ends_none c.args.job c.key_refused-stop.result c.end_with.result c.quiet.result (g.S.Source.left c.args.input.now) (g.S.Source.left c.args.input.now) (g.K.Sink.held c.args.out.now)
-    (g.K.Sink.held c.end_with.new.out) (sym c.in-None.ensures) c.key_refused-stop.ensures.told c.end_with.ensures.ends c.quiet.ensures.status c.quiet.ensures.quiet
+    let job = c.args.job in
+    let seen = context_seen (keys_in (job_view job.found.job)) in
+    let of : context_in (job_view job.found.job) ≡ None = sym c.in-Ok.ensures ∙ ap (option_map seen) c.in-None.is in
+    ends_none job c.key_refused-stop.result c.end_with.result c.quiet-in-None.result (g.S.Source.left c.args.input.now) (g.S.Source.left c.args.input.now) (g.K.Sink.held c.args.out.now)
+    (g.K.Sink.held c.end_with.new.out) of c.key_refused-stop.ensures.quiet c.key_refused-stop.ensures.told c.end_with.ensures.ends c.quiet-in-None.ensures.status c.quiet-in-None.ensures.quiet
 
 pub returns-in-None-clause-quiet : goal.returns-in-None-clause-quiet
 returns-in-None-clause-quiet g c = λ is.
     refused_status c.key_refused-stop.result c.end_with.result (g.K.Sink.held c.args.out.now) (g.K.Sink.held c.end_with.new.out) c.key_refused-stop.ensures.quiet c.end_with.ensures.ends
-    (sym c.quiet.ensures.status ∙ is)
+    (sym c.quiet-in-None.ensures.status ∙ is)

@@ -1,6 +1,7 @@
 -- Each document is counted once.
 use Rattle.std.proofs.Common.{◌≡◌, ℕ, suc, ◌+◌, ◌-◌, sym, ap, ◌∙◌, subst, arith}
-use Rattle.document_replies.specs.Jobs.{by_start, documents_of}
+use Rattle.document_replies.specs.Jobs.{by_start}
+use Rattle.document_replies.specs.Searches.{documents_of}
 use Rattle.job_commands.specs.Preparing.{EndsAsItsProgram}
 use Rattle.job_commands.specs.declared.answer.Answer.{Answer}
 use Rattle.job_commands.specs.declared.tally.Tally.{Tally}
@@ -11,7 +12,7 @@ use Rattle.job_commands.proofs.tally.tally_of.Goals as goal
 
 pub documents-init : goal.documents-init
 documents-init c =
-    let Is : ℕ → Answer → Type 0 = IsAnswer (documents_of c.args.job.now.settings) (by_start (EndsAsItsProgram c.args.job.now.script)) in
+    let Is : ℕ → Answer → Type 0 = IsAnswer (documents_of c.args.job.now.context) (by_start (EndsAsItsProgram c.args.job.now.script)) in
     let same = c.nothing_counted-tally.ensures in
     let errors : c.nothing_counted-tally.result.errors ≡ 0 = ap (λ (t : Tally). t.errors) same in
     let ok : c.nothing_counted-tally.result.ok ≡ 0 = ap (λ (t : Tally). t.ok) same in
@@ -20,7 +21,7 @@ documents-init c =
 
 pub documents-preserved : goal.documents-preserved
 documents-preserved c =
-    let Is : ℕ → Answer → Type 0 = IsAnswer (documents_of c.args.job.now.settings) (by_start (EndsAsItsProgram c.args.job.now.script)) in
+    let Is : ℕ → Answer → Type 0 = IsAnswer (documents_of c.args.job.now.context) (by_start (EndsAsItsProgram c.args.job.now.script)) in
     let answer = c.in_ok-answer.answer in
     let tally = c.documents.tally in
     let left = c.args.count - c.documents._made in
@@ -39,6 +40,6 @@ documents-preserved c =
 
 pub returns : goal.returns
 returns c =
-    let Is : ℕ → Answer → Type 0 = IsAnswer (documents_of c.args.job.now.settings) (by_start (EndsAsItsProgram c.args.job.now.script)) in
+    let Is : ℕ → Answer → Type 0 = IsAnswer (documents_of c.args.job.now.context) (by_start (EndsAsItsProgram c.args.job.now.script)) in
     let none : c.args.count - c.documents._made ≡ 0 = omega arith in
     counts_all Is c.args.count (c.args.count - c.documents._made) c.documents.number c.documents.tally none c.documents.invariant.counts

@@ -5,4 +5,4 @@ use Rattle.json_replies.proofs.Shown.{text_data}
 use Rattle.json_replies.proofs.showing.member_texts.Given as goal
 
 abbrev pub invariant-loop-number : goal.invariant-loop-number
-invariant-loop-number l = map view l.texts.items ++ map text_data (drop l.number-index l.reached) ≡ map text_data l.reached
+invariant-loop-number l = map view l.texts.items ++ map (text_data l.allow) (drop l.number-index l.reached) ≡ map (text_data l.allow) l.reached

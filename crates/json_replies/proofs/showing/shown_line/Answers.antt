@@ -14,7 +14,7 @@ returns-clause-text c =
     let objects = c.args.outcome.now.heap.objects in
     subst (λ (d : Data). IfOk c.line_of_reply.result (λ (line : Line). string_bytes line.text ≡ line_of d)) c.in_ok-json.ensures
     (c.line_of_reply.ensures.text (ap has_float c.in_ok-json.ensures
-    ∙ shown_has_none c.args.keys c.args.outcome.now.reached c.args.outcome.now.steps (search_reply_of c.args.kind end objects) (search_reply_has_none c.args.kind end objects)))
+    ∙ shown_has_none c.args.allow.now c.args.keys c.args.outcome.now.reached c.args.outcome.now.steps (search_reply_of c.args.kind end objects) (search_reply_has_none c.args.kind end objects)))
 
 pub returns-clause-error : goal.returns-clause-error
 returns-clause-error c =

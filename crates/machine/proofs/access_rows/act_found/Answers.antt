@@ -1,11 +1,11 @@
 use Rattle.pl_types.specs.Host.{no_host}
 use Rattle.def_access.specs.Members.{does}
 use Rattle.machine.proofs.Accessing.{of_found}
-use Rattle.machine.specs.Seen.{with_stack, world_of, codes_alone, limits_in}
+use Rattle.machine.specs.Seen.{with_stack, world_of, codes_in, limits_in}
 use Rattle.machine.proofs.access_rows.act_found.Goals as goal
 
 pub returns-in-Some-clause-exact : goal.returns-in-Some-clause-exact
 returns-in-Some-clause-exact c = λ stack.
-    of_found (codes_alone c.args.code.now.functions) (limits_in c.args.limits.now) (does no_host c.args.number c.args.values.now c.args.run.now.world.heap) c.in-Some.answer c.args.run.now.world.heap c.call.new.heap
+    of_found (codes_in c.args.executable.now) (limits_in c.args.executable.now c.args.limits.now) (does no_host c.args.number c.args.values.now c.args.run.now.world.heap) c.in-Some.answer c.args.run.now.world.heap c.call.new.heap
     (with_stack c.args.run.now.frames.top stack) c.args.run.now.frames.below (world_of c.args.run.now.world) c.args.run.now.frames.top.stack _ _ c.in-Some.ensures.does
     (λ effect h. c.answered_whole.ensures.exact effect c.args.run.now.world.heap stack h)

@@ -3,11 +3,11 @@ use Rattle.run_state.specs.World.{with_store}
 use Rattle.def_access.specs.Coming.{Comes}
 use Rattle.def_access.specs.declared.accessed.Accessed.{Accessed}
 use Rattle.machine.proofs.Accessing.{of_written}
-use Rattle.machine.specs.Seen.{with_stack, world_of, codes_alone, limits_in}
+use Rattle.machine.specs.Seen.{with_stack, world_of, codes_in, limits_in}
 use Rattle.machine.proofs.access_rows.write_accessed.Goals as goal
 
 pub returns-in-Acts-clause-exact : goal.returns-in-Acts-clause-exact
 returns-in-Acts-clause-exact c = λ access old stack h.
-    of_written (codes_alone c.args.code.now.functions) (limits_in c.args.limits.now) (with_stack c.args.run.now.frames.top stack) c.args.run.now.frames.below (with_store (world_of c.args.run.now.world) old) c.args.run.now.frames.top.stack _ _ access c.in-Acts.answer old c.args.run.now.world.heap
+    of_written (codes_in c.args.executable.now) (limits_in c.args.executable.now c.args.limits.now) (with_stack c.args.run.now.frames.top stack) c.args.run.now.frames.below (with_store (world_of c.args.run.now.world) old) c.args.run.now.frames.top.stack _ _ access c.in-Acts.answer old c.args.run.now.world.heap
     (subst (λ (accessed : Accessed). Comes access old c.args.run.now.world.heap c.args.receiver (c.args.value ∷ []) accessed) c.in-Acts.is h)
     (λ effect k. c.answered_done.ensures.exact effect old stack k)

@@ -13,5 +13,5 @@ call_found-requires c =
 pub returns-in-Some : goal.returns-in-Some
 returns-in-Some c =
     subst (λ (x : Access). ComesOn x c.args.heap.now c.call_found.new.heap c.call_found.new.values c.call_found.result)
-    (ap (called_on c.args.heap.now c.args.name.now c.args.values.now) (told_first c.args.allow.now c.args.heap.now.objects c.args.methods.now c.args.name.now c.args.count c.args.values.now c.in-Some.found c.requires c.in-Some.ensures) ∙ method_is c.args.allow.now c.args.heap.now c.args.name.now c.args.values.now)
+    (ap (called_on c.args.allow.now c.args.heap.now c.args.name.now c.args.values.now) (told_first c.args.allow.now c.args.heap.now.objects c.args.methods.now c.args.name.now c.args.count c.args.values.now c.in-Some.found c.requires c.in-Some.ensures) ∙ method_is c.args.allow.now c.args.heap.now c.args.name.now c.args.values.now)
     c.call_found.ensures

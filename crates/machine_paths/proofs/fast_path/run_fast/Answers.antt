@@ -3,7 +3,7 @@ use Rattle.object_heap.specs.Store.{Store}
 use Rattle.run_state.specs.World.{Limits}
 use Rattle.code_meaning.specs.Machine.{Goes, code_in, function_of, step}
 use Rattle.machine_paths.specs.Fast.{Leads, placed}
-use Rattle.machine_parts.specs.Code.{codes_alone}
+use Rattle.machine_parts.specs.Code.{codes_in}
 use Rattle.machine_paths.proofs.Quick.{same_function}
 use Rattle.machine_paths.proofs.Moving.{counts_still, kept_room, not_taken, stays_in, went_here, went_elsewhere}
 use Rattle.machine_paths.proofs.Leading.{steps_on}
@@ -12,19 +12,19 @@ use Rattle.machine_paths.proofs.fast_path.run_fast.Goals as goal
 
 pub returns-in-None-clause-exact : goal.returns-in-None-clause-exact
 returns-in-None-clause-exact c = λ limits store reached loops depth.
-    steps_on (codes_alone c.args.code.now.functions) limits c.instructions.taken (placed c.args.frames store c.args.ticks reached) (placed c.instructions.frames store c.instructions.ticks reached)
+    steps_on (codes_in c.args.executable.now) limits c.instructions.taken (placed c.args.frames store c.args.ticks reached) (placed c.instructions.frames store c.instructions.ticks reached)
     (placed c.fast_step.new.frames store c.fast_step.new.ticks reached) (c.instructions.invariant.leads limits store reached loops depth)
     (went_elsewhere _ _ _ _ c.in-Elsewhere.is (c.fast_step.ensures.exact limits store reached loops depth))
 
 pub returns-in-Not-clause-exact : goal.returns-in-Not-clause-exact
 returns-in-Not-clause-exact c = λ limits store reached loops depth.
-    subst (λ d. Leads (codes_alone c.args.code.now.functions) limits c.instructions.taken (placed c.args.frames store c.args.ticks reached) d)
+    subst (λ d. Leads (codes_in c.args.executable.now) limits c.instructions.taken (placed c.args.frames store c.args.ticks reached) d)
     (sym (not_taken _ _ _ _ c.in-Not.is (c.fast_step.ensures.exact limits store reached loops depth)))
     (c.instructions.invariant.leads limits store reached loops depth)
 
 pub instructions-preserved : goal.instructions-preserved
 instructions-preserved c =
-    let codes = codes_alone c.args.code.now.functions in
+    let codes = codes_in c.args.executable.now in
     let old = c.instructions.frames in
     let new = c.fast_step.new.frames in
     let went : (limits : Limits) (store : Store) (reached : List ℕ) → limits.loop ≡ c.args.loops → limits.depth ≡ c.args.depth
@@ -55,5 +55,5 @@ instructions-preserved c =
 pub returns-clause-exact : goal.returns-clause-exact
 returns-clause-exact c = λ limits store reached loops depth.
     let same : c.instructions.taken ≡ c.args.count = omega arith in
-    subst (λ (n : ℕ). Leads (codes_alone c.args.code.now.functions) limits n (placed c.args.frames store c.args.ticks reached) (placed c.instructions.frames store c.instructions.ticks reached)) same
+    subst (λ (n : ℕ). Leads (codes_in c.args.executable.now) limits n (placed c.args.frames store c.args.ticks reached) (placed c.instructions.frames store c.instructions.ticks reached)) same
     (c.instructions.invariant.leads limits store reached loops depth)

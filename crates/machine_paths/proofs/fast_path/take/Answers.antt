@@ -3,13 +3,13 @@ use Rattle.run_state.specs.World.{World}
 use Rattle.pl_code.specs.declared.kinds.Plain.TheVariants as plain
 use Rattle.code_meaning.specs.Machine.{act, code_in, numbered_act, on_call, plain_act}
 use Rattle.machine_paths.specs.Fast.{Takes, placed}
-use Rattle.machine_parts.specs.Code.{codes_alone}
+use Rattle.machine_parts.specs.Code.{codes_in}
 use Rattle.machine_paths.proofs.Moving.{as_takes, takes_moves}
 use Rattle.machine_paths.proofs.fast_path.take.Goals as goal
 
 pub returns-in-Call-clause-exact : goal.returns-in-Call-clause-exact
 returns-in-Call-clause-exact c = λ limits store reached loops depth.
-    let codes = codes_alone c.args.code.now.functions in
+    let codes = codes_in c.args.executable.now in
     let f = c.args.frames.now.top in
     let below = c.args.frames.now.below in
     let w : World = record { store = store; ticks = c.args.ticks.now; reached = reached } in
@@ -20,7 +20,7 @@ returns-in-Call-clause-exact c = λ limits store reached loops depth.
 
 pub returns-in-Ret-clause-exact : goal.returns-in-Ret-clause-exact
 returns-in-Ret-clause-exact c = λ limits store reached loops depth.
-    let codes = codes_alone c.args.code.now.functions in
+    let codes = codes_in c.args.executable.now in
     let f = c.args.frames.now.top in
     let below = c.args.frames.now.below in
     let w : World = record { store = store; ticks = c.args.ticks.now; reached = reached } in
@@ -30,21 +30,21 @@ returns-in-Ret-clause-exact c = λ limits store reached loops depth.
 
 pub returns-in_default-kind : goal.returns-in_default-kind
 returns-in_default-kind c = record {
-  exact = λ limits store reached loops depth. c.stay.ensures.exact (codes_alone c.args.code.now.functions) limits store reached c.requires.found loops;
+  exact = λ limits store reached loops depth. c.stay.ensures.exact (codes_in c.args.executable.now) limits store reached c.requires.found loops;
   same = c.stay.ensures.same;
   room = c.stay.ensures.room;
 }
 
 pub returns-in_default-kind-2 : goal.returns-in_default-kind-2
 returns-in_default-kind-2 c = record {
-  exact = λ limits store reached loops depth. c.stay-in_default-kind-2.ensures.exact (codes_alone c.args.code.now.functions) limits store reached c.requires.found loops;
+  exact = λ limits store reached loops depth. c.stay-in_default-kind-2.ensures.exact (codes_in c.args.executable.now) limits store reached c.requires.found loops;
   same = c.stay-in_default-kind-2.ensures.same;
   room = c.stay-in_default-kind-2.ensures.room;
 }
 
 pub returns-in_default : goal.returns-in_default
 returns-in_default c = record {
-  exact = λ limits store reached loops depth. c.stay-in_default.ensures.exact (codes_alone c.args.code.now.functions) limits store reached c.requires.found loops;
+  exact = λ limits store reached loops depth. c.stay-in_default.ensures.exact (codes_in c.args.executable.now) limits store reached c.requires.found loops;
   same = c.stay-in_default.ensures.same;
   room = c.stay-in_default.ensures.room;
 }

@@ -2,9 +2,8 @@ use Rattle.std.proofs.Common.{◌≡◌, ℕ, List, Some, sym, ap, subst, ◌∙
 use Rattle.object_heap.specs.Store.{Store}
 use Rattle.run_state.specs.World.{Limits}
 use Rattle.code_meaning.specs.Machine.{Goes, code_in, function_of, step}
-use Rattle.pl_code.specs.declared.code.Code.{Code}
 use Rattle.machine_paths.specs.Fast.{Leads, placed}
-use Rattle.machine_parts.specs.Code.{codes_alone}
+use Rattle.machine_parts.specs.Code.{codes_in}
 use Rattle.machine_paths.proofs.Quick.{same_function}
 use Rattle.machine_paths.proofs.Moving.{counts_still, kept_room, not_taken, stays_in, went_here, went_elsewhere}
 use Rattle.machine_paths.proofs.Leading.{steps_on}
@@ -13,19 +12,19 @@ use Rattle.machine_paths.proofs.value_path.run_values.Goals as goal
 
 pub returns-in-None-clause-exact : goal.returns-in-None-clause-exact
 returns-in-None-clause-exact c = λ limits store reached loops depth.
-    steps_on (codes_alone c.args.executable.now.code.functions) limits c.instructions.taken (placed c.args.frames store c.args.ticks reached) (placed c.instructions.frames store c.instructions.ticks reached)
+    steps_on (codes_in c.args.executable.now) limits c.instructions.taken (placed c.args.frames store c.args.ticks reached) (placed c.instructions.frames store c.instructions.ticks reached)
     (placed c.value_step.new.frames store c.value_step.new.ticks reached) (c.instructions.invariant.leads limits store reached loops depth)
     (went_elsewhere _ _ _ _ c.in-Elsewhere.is (c.value_step.ensures.exact limits store reached loops depth))
 
 pub returns-in-Not-clause-exact : goal.returns-in-Not-clause-exact
 returns-in-Not-clause-exact c = λ limits store reached loops depth.
-    subst (λ d. Leads (codes_alone c.args.executable.now.code.functions) limits c.instructions.taken (placed c.args.frames store c.args.ticks reached) d)
+    subst (λ d. Leads (codes_in c.args.executable.now) limits c.instructions.taken (placed c.args.frames store c.args.ticks reached) d)
     (sym (not_taken _ _ _ _ c.in-Not.is (c.value_step.ensures.exact limits store reached loops depth)))
     (c.instructions.invariant.leads limits store reached loops depth)
 
 pub instructions-preserved : goal.instructions-preserved
 instructions-preserved c =
-    let codes = codes_alone c.args.executable.now.code.functions in
+    let codes = codes_in c.args.executable.now in
     let old = c.instructions.frames in
     let new = c.value_step.new.frames in
     let went : (limits : Limits) (store : Store) (reached : List ℕ) → limits.loop ≡ c.args.loops → limits.depth ≡ c.args.depth
@@ -41,9 +40,7 @@ instructions-preserved c =
           let here : function_of codes new.top ≡ Some c.instructions.function.now = same_function codes old.top new.top _ same.0 same.1 c.instructions.invariant.found in
           cc (here, w.function-is)
       | in-Elsewhere+in-Some w ↦
-          let there : function_of codes new.top ≡ Some w.in-Some.found.now =
-          subst (λ (code : Code). slice_get (code_in (codes_alone code.functions) new.top.text) new.top.fun ≡ Some w.in-Some.found.now) w.linked.ensures
-          (ap (slice_get (code_in (codes_alone w.linked.result.now.functions) new.top.text)) (sym w.fun.ensures) ∙ sym w.in-Some.ensures) in
+          let there = ap (slice_get (code_in codes new.top.text)) (sym w.fun.ensures) ∙ sym w.in-Some.ensures in
           cc (there, w.function-is)
     ] in
     record {
@@ -58,5 +55,5 @@ instructions-preserved c =
 pub returns-clause-exact : goal.returns-clause-exact
 returns-clause-exact c = λ limits store reached loops depth.
     let same : c.instructions.taken ≡ c.args.count = omega arith in
-    subst (λ (n : ℕ). Leads (codes_alone c.args.executable.now.code.functions) limits n (placed c.args.frames store c.args.ticks reached) (placed c.instructions.frames store c.instructions.ticks reached)) same
+    subst (λ (n : ℕ). Leads (codes_in c.args.executable.now) limits n (placed c.args.frames store c.args.ticks reached) (placed c.instructions.frames store c.instructions.ticks reached)) same
     (c.instructions.invariant.leads limits store reached loops depth)

@@ -2,9 +2,8 @@ use Rattle.std.proofs.Common.{Option, ap, sym, subst, ◌∙◌, slice_get}
 use Rattle.run_state.specs.World.{World}
 use Rattle.pl_code.specs.declared.kinds.Plain.TheVariants as plain
 use Rattle.code_meaning.specs.Machine.{act, code_in, numbered_act, on_call, plain_act}
-use Rattle.pl_code.specs.declared.code.Code.{Code}
-use Rattle.machine_paths.specs.Fast.{Does, StaysIn, Takes, placed}
-use Rattle.machine_parts.specs.Code.{codes_alone}
+use Rattle.machine_paths.specs.Fast.{StaysIn, Takes, placed}
+use Rattle.machine_parts.specs.Code.{codes_in}
 use Rattle.pl_code.specs.declared.code.FunCode.{FunCode}
 use Rattle.machine_parts.specs.Links.{lines_in}
 use Rattle.machine_paths.proofs.Boxing.{constant_so}
@@ -13,20 +12,18 @@ use Rattle.machine_paths.proofs.value_path.take_value.Goals as goal
 
 pub returns-in-Call-clause-exact : goal.returns-in-Call-clause-exact
 returns-in-Call-clause-exact c = λ limits store reached loops depth.
-    let codes = codes_alone c.args.executable.now.code.functions in
+    let codes = codes_in c.args.executable.now in
     let f = c.args.frames.now.top in
     let below = c.args.frames.now.below in
     let w : World = record { store = store; ticks = c.args.ticks.now; reached = reached } in
     let k = c.in-Numbered.number in
     as_takes _ _ _ _ _ (ap (λ i. act codes limits i f below w) c.in-Numbered.is ∙ ap (λ kind. numbered_act codes limits kind k f below w) c.in-Call.is)
     (subst (Takes (on_call codes limits (slice_get (code_in codes f.text) k) k f below w) (placed c.args.frames.now store c.args.ticks.now reached) (placed c.call.new.frames store c.call.new.ticks reached)) (sym c.moves.ensures)
-    (takes_moves _ _ _ _
-    (subst (λ (code : Code). Does (on_call (codes_alone code.functions) limits (slice_get (code_in (codes_alone code.functions) f.text) k) k f below w) (placed c.args.frames.now store c.args.ticks.now reached) (placed c.call.new.frames store c.call.new.ticks reached) c.call.result) c.linked.ensures
-    (c.call.ensures.exact limits store reached depth))))
+    (takes_moves _ _ _ _ (c.call.ensures.exact limits store reached depth)))
 
 pub returns-in-Ret-clause-exact : goal.returns-in-Ret-clause-exact
 returns-in-Ret-clause-exact c = λ limits store reached loops depth.
-    let codes = codes_alone c.args.executable.now.code.functions in
+    let codes = codes_in c.args.executable.now in
     let f = c.args.frames.now.top in
     let below = c.args.frames.now.below in
     let w : World = record { store = store; ticks = c.args.ticks.now; reached = reached } in
@@ -36,7 +33,7 @@ returns-in-Ret-clause-exact c = λ limits store reached loops depth.
 
 pub returns-in-Constant-clause-exact : goal.returns-in-Constant-clause-exact
 returns-in-Constant-clause-exact c = λ limits store reached loops depth.
-    let codes = codes_alone c.args.executable.now.code.functions in
+    let codes = codes_in c.args.executable.now in
     let f = c.args.frames.now.top in
     let below = c.args.frames.now.below in
     let w : World = record { store = store; ticks = c.args.ticks.now; reached = reached } in
@@ -51,4 +48,4 @@ returns-in-Constant-clause-same c =
     (stayed c.args.frames.now.top c.put_constant.new.frames.top c.put_constant.result c.put_constant.ensures.keeps.0 c.put_constant.ensures.keeps.1)
 
 pub returns-clause-exact : goal.returns-clause-exact
-returns-clause-exact c = λ limits store reached loops depth. c.stay_value.ensures.exact (codes_alone c.args.executable.now.code.functions) limits store reached c.requires.found loops
+returns-clause-exact c = λ limits store reached loops depth. c.stay_value.ensures.exact (codes_in c.args.executable.now) limits store reached c.requires.found loops

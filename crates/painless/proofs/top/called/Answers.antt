@@ -1,50 +1,57 @@
-use Rattle.painless.proofs.Asking.{eval_asks, check_asks, list_asks, run_asks}
-use Rattle.painless.proofs.Delivered.{eval_delivers, check_delivers, list_delivers, run_delivers}
+-- Each command ends as is told of it.
+use Rattle.std.proofs.Common.{◌≡◌, [], refl}
+use Rattle.command_parts.specs.Ends.{Outside, of_files}
+use Rattle.command_parts.proofs.Ends.{ends_unread}
+use Rattle.eval_command.specs.Tellings.{eval_telling}
+use Rattle.job_commands.specs.Tellings.{check_telling, list_telling}
+use Rattle.painless.specs.declared.words.Command.TheVariants as command
+use Rattle.painless.proofs.Ends.{named_so}
 use Rattle.painless.proofs.top.called.Goals as goal
 
-pub returns-in-Eval-clause-told : goal.returns-in-Eval-clause-told
-returns-in-Eval-clause-told g c =
-    let h = c.eval.ensures.told in
-    let left = g.S.Source.left c.args.input.now in
-    let d =
-    eval_delivers h.0 c.args.name.now c.args.command c.eval.result left left (g.K.Sink.held c.args.out.now) (g.K.Sink.held c.eval.new.out) c.in-Eval.is (h.2, h.3, h.4) in
-    (h.0, h.1, d.0, d.1, d.2)
+pub returns-in-Eval : goal.returns-in-Eval
+returns-in-Eval g c =
+    let name = c.args.name.now in
+    let of = eval_telling name in
+    let here = of_files (g.F.Files.content c.args.files.now) (g.F.Files.asked c.args.files.now) (g.F.Files.faults c.args.files.now) (g.K.Sink.held c.args.out.now) (g.K.Sink.faults c.args.out.now) in
+    let there = of_files (g.F.Files.content c.eval.new.files) (g.F.Files.asked c.eval.new.files) (g.F.Files.faults c.eval.new.files) (g.K.Sink.held c.eval.new.out) (g.K.Sink.faults c.eval.new.out) in
+    let before : Outside = record { content = g.F.Files.content c.args.files.now; asked = g.F.Files.asked c.args.files.now; file_faults = g.F.Files.faults c.args.files.now; left = g.S.Source.left c.args.input.now; read_faults = g.S.Source.faults c.args.input.now; held = g.K.Sink.held c.args.out.now; write_faults = g.K.Sink.faults c.args.out.now } in
+    let after : Outside = record { content = g.F.Files.content c.eval.new.files; asked = g.F.Files.asked c.eval.new.files; file_faults = g.F.Files.faults c.eval.new.files; left = g.S.Source.left c.args.input.now; read_faults = g.S.Source.faults c.args.input.now; held = g.K.Sink.held c.eval.new.out; write_faults = g.K.Sink.faults c.eval.new.out } in
+    record {
+      ends = named_so before after (c.args.input.now ≡ c.args.input.now) c.eval.result name c.args.command command.Eval c.in-Eval.is
+          (ends_unread of.are (λ content codes told. of.tells content codes [] told) of.asks here there c.eval.result (g.S.Source.left c.args.input.now) (g.S.Source.faults c.args.input.now)
+          (c.args.input.now ≡ c.args.input.now) refl refl refl c.eval.ensures.ends);
+    }
 
-pub returns-in-Check-clause-told : goal.returns-in-Check-clause-told
-returns-in-Check-clause-told g c =
-    let h = c.check.ensures.told in
-    let left = g.S.Source.left c.args.input.now in
-    let d = check_delivers h.0 c.args.name.now c.args.command c.check.result left left (g.K.Sink.held c.args.out.now) (g.K.Sink.held c.check.new.out) c.in-Check.is h.2 in
-    (h.0, h.1, d.0, d.1, d.2)
+pub returns-in-Check : goal.returns-in-Check
+returns-in-Check g c =
+    let name = c.args.name.now in
+    let of = check_telling name in
+    let here = of_files (g.F.Files.content c.args.files.now) (g.F.Files.asked c.args.files.now) (g.F.Files.faults c.args.files.now) (g.K.Sink.held c.args.out.now) (g.K.Sink.faults c.args.out.now) in
+    let there = of_files (g.F.Files.content c.check.new.files) (g.F.Files.asked c.check.new.files) (g.F.Files.faults c.check.new.files) (g.K.Sink.held c.check.new.out) (g.K.Sink.faults c.check.new.out) in
+    let before : Outside = record { content = g.F.Files.content c.args.files.now; asked = g.F.Files.asked c.args.files.now; file_faults = g.F.Files.faults c.args.files.now; left = g.S.Source.left c.args.input.now; read_faults = g.S.Source.faults c.args.input.now; held = g.K.Sink.held c.args.out.now; write_faults = g.K.Sink.faults c.args.out.now } in
+    let after : Outside = record { content = g.F.Files.content c.check.new.files; asked = g.F.Files.asked c.check.new.files; file_faults = g.F.Files.faults c.check.new.files; left = g.S.Source.left c.args.input.now; read_faults = g.S.Source.faults c.args.input.now; held = g.K.Sink.held c.check.new.out; write_faults = g.K.Sink.faults c.check.new.out } in
+    record {
+      ends = named_so before after (c.args.input.now ≡ c.args.input.now) c.check.result name c.args.command command.Check c.in-Check.is
+          (ends_unread of.are (λ content codes told. of.tells content codes [] told) of.asks here there c.check.result (g.S.Source.left c.args.input.now) (g.S.Source.faults c.args.input.now)
+          (c.args.input.now ≡ c.args.input.now) refl refl refl c.check.ensures.ends);
+    }
 
-pub returns-in-List-clause-told : goal.returns-in-List-clause-told
-returns-in-List-clause-told g c =
-    let h = c.list.ensures.told in
-    let left = g.S.Source.left c.args.input.now in
-    let d =
-    list_delivers h.0 c.args.name.now c.args.command c.list.result left left (g.K.Sink.held c.args.out.now) (g.K.Sink.held c.list.new.out) c.in-List.is (h.2, h.3, h.4) in
-    (h.0, h.1, d.0, d.1, d.2)
+pub returns-in-List : goal.returns-in-List
+returns-in-List g c =
+    let name = c.args.name.now in
+    let of = list_telling name in
+    let here = of_files (g.F.Files.content c.args.files.now) (g.F.Files.asked c.args.files.now) (g.F.Files.faults c.args.files.now) (g.K.Sink.held c.args.out.now) (g.K.Sink.faults c.args.out.now) in
+    let there = of_files (g.F.Files.content c.list.new.files) (g.F.Files.asked c.list.new.files) (g.F.Files.faults c.list.new.files) (g.K.Sink.held c.list.new.out) (g.K.Sink.faults c.list.new.out) in
+    let before : Outside = record { content = g.F.Files.content c.args.files.now; asked = g.F.Files.asked c.args.files.now; file_faults = g.F.Files.faults c.args.files.now; left = g.S.Source.left c.args.input.now; read_faults = g.S.Source.faults c.args.input.now; held = g.K.Sink.held c.args.out.now; write_faults = g.K.Sink.faults c.args.out.now } in
+    let after : Outside = record { content = g.F.Files.content c.list.new.files; asked = g.F.Files.asked c.list.new.files; file_faults = g.F.Files.faults c.list.new.files; left = g.S.Source.left c.args.input.now; read_faults = g.S.Source.faults c.args.input.now; held = g.K.Sink.held c.list.new.out; write_faults = g.K.Sink.faults c.list.new.out } in
+    record {
+      ends = named_so before after (c.args.input.now ≡ c.args.input.now) c.list.result name c.args.command command.List c.in-List.is
+          (ends_unread of.are (λ content codes told. of.tells content codes [] told) of.asks here there c.list.result (g.S.Source.left c.args.input.now) (g.S.Source.faults c.args.input.now)
+          (c.args.input.now ≡ c.args.input.now) refl refl refl c.list.ensures.ends);
+    }
 
-pub returns-in-Run-clause-told : goal.returns-in-Run-clause-told
-returns-in-Run-clause-told g c =
-    let h = c.run.ensures.told in
-    let d =
-    run_delivers h.0 c.args.name.now c.args.command c.run.result (g.S.Source.left c.args.input.now) (g.S.Source.left c.run.new.input) (g.K.Sink.held c.args.out.now) (g.K.Sink.held c.run.new.out)
-    c.in-Run.is (h.2, h.3, h.4) in
-    (h.0, h.1, d.0, d.1, d.2)
-
-pub returns-in-Eval-clause-asked : goal.returns-in-Eval-clause-asked
-returns-in-Eval-clause-asked g c =
-    eval_asks (g.F.Files.content c.args.files.now) (g.F.Files.asked c.args.files.now) (g.F.Files.asked c.eval.new.files) c.args.name.now c.args.command c.in-Eval.is c.eval.ensures.asks
-
-pub returns-in-Check-clause-asked : goal.returns-in-Check-clause-asked
-returns-in-Check-clause-asked g c =
-    check_asks (g.F.Files.content c.args.files.now) (g.F.Files.asked c.args.files.now) (g.F.Files.asked c.check.new.files) c.args.name.now c.args.command c.in-Check.is c.check.ensures.asked
-
-pub returns-in-List-clause-asked : goal.returns-in-List-clause-asked
-returns-in-List-clause-asked g c =
-    list_asks (g.F.Files.content c.args.files.now) (g.F.Files.asked c.args.files.now) (g.F.Files.asked c.list.new.files) c.args.name.now c.args.command c.in-List.is c.list.ensures.asked
-
-pub returns-in-Run-clause-asked : goal.returns-in-Run-clause-asked
-returns-in-Run-clause-asked g c =
-    run_asks (g.F.Files.content c.args.files.now) (g.F.Files.asked c.args.files.now) (g.F.Files.asked c.run.new.files) c.args.name.now c.args.command c.in-Run.is c.run.ensures.asked
+pub returns-in-Run : goal.returns-in-Run
+returns-in-Run g c =
+    let before : Outside = record { content = g.F.Files.content c.args.files.now; asked = g.F.Files.asked c.args.files.now; file_faults = g.F.Files.faults c.args.files.now; left = g.S.Source.left c.args.input.now; read_faults = g.S.Source.faults c.args.input.now; held = g.K.Sink.held c.args.out.now; write_faults = g.K.Sink.faults c.args.out.now } in
+    let after : Outside = record { content = g.F.Files.content c.run.new.files; asked = g.F.Files.asked c.run.new.files; file_faults = g.F.Files.faults c.run.new.files; left = g.S.Source.left c.run.new.input; read_faults = g.S.Source.faults c.run.new.input; held = g.K.Sink.held c.run.new.out; write_faults = g.K.Sink.faults c.run.new.out } in
+    record { ends = named_so before after (c.run.new.input ≡ c.args.input.now) c.run.result c.args.name.now c.args.command command.Run c.in-Run.is c.run.ensures.ends }

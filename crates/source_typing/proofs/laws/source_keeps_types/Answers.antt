@@ -1,5 +1,4 @@
 use Rattle.source_typing.proofs.Operations.{operators_give_types, nodes_give_types, casts_give_static_types}
-use Rattle.source_typing.proofs.Mains.{mains_are_typed}
 use Rattle.source_typing.proofs.Meanings.{meanings_are_typed, results_are_typed}
 use Rattle.source_typing.proofs.laws.source_keeps_types.Goals as goal
 
@@ -17,6 +16,3 @@ returns-clause-casts c = casts_give_static_types
 
 pub returns-clause-nodes : goal.returns-clause-nodes
 returns-clause-nodes c = nodes_give_types
-
-pub returns-clause-mains : goal.returns-clause-mains
-returns-clause-mains c = mains_are_typed

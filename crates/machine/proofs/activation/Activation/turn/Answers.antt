@@ -1,7 +1,7 @@
-use Rattle.std.proofs.Common.{◌≡◌, sym, ◌∙◌, subst}
+use Rattle.std.proofs.Common.{sym, ◌∙◌, subst}
 use Rattle.machine.specs.Activations.{HasTurned, Turned}
 use Rattle.machine.specs.Memory.{RunSpares}
-use Rattle.machine.specs.Seen.{limits_of, codes_alone, rules_of, limits_in}
+use Rattle.machine.specs.Seen.{limits_in}
 use Rattle.machine.proofs.Ended.{still}
 use Rattle.machine.proofs.Found.{has_turned, run_spares, ended_turned}
 use Rattle.machine.proofs.activation.Activation.turn.Goals as goal
@@ -9,24 +9,20 @@ use Rattle.machine.proofs.activation.Activation.turn.Goals as goal
 pub returns-else-goes-clause-exact : goal.returns-else-goes-clause-exact
 returns-else-goes-clause-exact c =
     subst (Turned c.args.q c.args.self.now c.args.self.now) (sym c.turn_of-else-goes.ensures)
-    (still c.self.inside.executable.now.code.functions c.self.inside.limits c.self.inside.executable.now.allow c.self.inside.executable.now.frame c.args.q
+    (still c.self.inside.executable.now c.self.inside.limits c.args.q
     c.self.inside.run c.self.inside.last c.self.inside.steps (sym c.goes.ensures ∙ c.if-goes.false) c.self.invariant.0 c.args.self.now (sym c.self.view_is))
 
 pub returns-else-goes-clause-memory : goal.returns-else-goes-clause-memory
 returns-else-goes-clause-memory c = λ spares.
     subst HasTurned (sym c.turn_of-else-goes.ensures)
-    (ended_turned c.self.inside.executable.now.code.functions c.self.inside.limits c.self.inside.executable.now.allow c.self.inside.executable.now.frame c.args.q
+    (ended_turned c.self.inside.executable.now c.self.inside.limits c.args.q
     c.self.inside.run c.self.inside.last c.self.inside.steps (sym c.goes.ensures ∙ c.if-goes.false) c.args.self.now (sym c.self.view_is) spares)
 
 pub returns-then-goes-clause-memory : goal.returns-then-goes-clause-memory
 returns-then-goes-clause-memory c = λ spares.
-    let code = c.self.inside.executable.now.code.functions in
+    let executable = c.self.inside.executable.now in
     let limits = c.self.inside.limits in
-    let allow = c.self.inside.executable.now.allow in
-    let frame = c.self.inside.executable.now.frame in
-    let rules : rules_of limits allow ≡ c.new-rules.result = cc (c.new-rules.ensures, c.allow.ensures) in
-    let run : RunSpares (codes_alone code) (limits_of limits allow) frame c.args.q c.self.inside.run =
-    run_spares code limits allow frame c.args.q c.self.inside.run c.self.inside.last c.self.inside.steps (sym c.goes.ensures ∙ c.if-goes.true) c.self.invariant.1
+    let run : RunSpares executable (limits_in executable limits) c.args.q c.self.inside.run =
+    run_spares executable limits c.args.q c.self.inside.run c.self.inside.last c.self.inside.steps (sym c.goes.ensures ∙ c.if-goes.true) c.self.invariant.1
     c.args.self.now (sym c.self.view_is) spares in
-    subst HasTurned (sym c.turn_of.ensures)
-    (has_turned c.run_on-last.result.last (c.run_on-last.ensures.memory (subst (λ r. RunSpares (codes_alone code) (limits_in r) frame c.args.q c.self.inside.run) rules run)))
+    subst HasTurned (sym c.turn_of.ensures) (has_turned c.run_on-last.result.last (c.run_on-last.ensures.memory run))

@@ -4,4 +4,4 @@ use Rattle.verified_machine.proofs.activation.VerifiedActivation.finish_with_mem
 
 pub returns-clause-heap : goal.returns-clause-heap
 returns-clause-heap c =
-    ending_fits c.args.self.run c.in-Some.outcome (sym (sym c.in-Some.is ∙ c.leave-outcome.ensures.alone c.in_ok-run_out.ensures.left ∙ c.in_ok-run_out.ensures.ending))
+    ending_fits c.args.self c.in-Some.outcome (sym (sym c.in-Some.is ∙ c.leave-outcome.ensures.alone c.in_ok-run_out.ensures.left ∙ c.in_ok-run_out.ensures.ending))

@@ -5,11 +5,10 @@ use Rattle.verified_machine.proofs.activation.VerifiedActivation.run_out.Given a
 -- it comes to the same end, and takes no memory where it took none
 abbrev pub invariant-turns : goal.invariant-turns
 invariant-turns l = record {
-  ending : ending l.self.run ≡ ending l.initial.self.run;
-  code : l.self.run.code ≡ l.initial.self.run.code;
-  allow : l.self.allow ≡ l.initial.self.allow;
-  spares : SparesMemory l.initial.self.run → SparesMemory l.self.run;
+  ending : ending l.self ≡ ending l.initial.self;
+  executable : l.self.executable ≡ l.initial.self.executable;
+  spares : SparesMemory l.initial.self → SparesMemory l.self;
 }
 
 abbrev pub decreases-turns : goal.decreases-turns
-decreases-turns l = rest l.self.run
+decreases-turns l = rest l.self

@@ -1,0 +1,6 @@
+pub mod Applying
+pub mod Coming
+pub mod Laws
+pub mod Passing
+pub mod Paying
+pub mod Targets

@@ -1,8 +1,0 @@
-use Rattle.std.proofs.Common.{ℕ, ◌<◌, ◌≤◌}
-use Rattle.allowlist.specs.Index.{member_at}
-use Rattle.code_meaning.specs.Members.{count_of}
-use Rattle.machine_parts.proofs.executable.most_arguments.Given as goal
-
--- no member so far takes more
-abbrev pub invariant-loop-number : goal.invariant-loop-number
-invariant-loop-number l = (k : ℕ) → k < l.number → count_of (member_at k) ≤ l.most

@@ -1,0 +1,188 @@
+-- What turns of tasks come to: steps of clients.
+use Rattle.std.proofs.Common.{◌≡◌, ◌⊎◌, ℕ, zero, suc, ◌+◌, ◌*◌, ◌<◌, Bool, true, false, List, [], ◌∷◌, ◌++◌, length, map, get_or, Option, Some, None, inl, inr, refl, sym, ap, ◌∙◌, subst, arith}
+use Rattle.std.specs.Prelude.{◌==◌}
+use Rattle.std.proofs.lemmas.Bool.Decides.{eqb_tells}
+use Rattle.task_core.specs.Order.{rounds}
+use Rattle.task_core.specs.Steps.{State, over, IsStep, left_at, StepsAt, HasTurn, HaveTurns, AllStep}
+use Rattle.update_store.specs.Documents.{DocData, ChangeData, version_at}
+use Rattle.update_store.specs.Committing.{StoreData, read, committed}
+use Rattle.update_store.specs.Replies.{change_reply}
+use Rattle.update_store.specs.Updates.{Made, Writes, Nothing, Fails, PhaseData, Read, Run, Write, Keep, Ended, ClientData, Stepped, stepped, in_phase, begun, run_made, op_of, again, step_in, step, World, world, put_before, turn, turns, Call, calls_in, calls_at, calls, left_in, left_of, has_ended, IsUpdated}
+use Rattle.update_store.specs.Running.{counted, paid, Asked, Takes}
+use Rattle.update_store.proofs.DocumentLemmas.{chosen, passed}
+
+-- ---- what is left
+
+not_zero : (n : ℕ) → 0 < n → (n == 0) ≡ false
+not_zero n some = elim (eqb_tells n 0) [ inl h ↦ absurd (omega (arith, h.1, some)) | inr h ↦ h.0 ]
+
+-- a client has ended where no step is left
+pub ended_tells : (phase : PhaseData) (retries : ℕ) → has_ended phase ≡ (left_in phase retries == 0)
+ended_tells Read retries = sym (not_zero (3 + 3 * retries) (omega arith))
+ended_tells (Run doc) retries = sym (not_zero (2 + 3 * retries) (omega arith))
+ended_tells (Write version change) retries = sym (not_zero (1 + 3 * retries) (omega arith))
+ended_tells Keep retries = refl
+ended_tells (Ended reply) retries = refl
+
+pub ended_none : (phase : PhaseData) (retries : ℕ) → has_ended phase ≡ true → left_in phase retries ≡ 0
+ended_none Read retries e = cc
+ended_none (Run doc) retries e = cc
+ended_none (Write version change) retries e = cc
+ended_none Keep retries e = cc
+ended_none (Ended reply) retries e = refl
+
+pub going_some : (phase : PhaseData) (retries : ℕ) → has_ended phase ≡ false → 0 < left_in phase retries
+going_some Read retries e = omega arith
+going_some (Run doc) retries e = omega arith
+going_some (Write version change) retries e = omega arith
+going_some Keep retries e = omega arith
+going_some (Ended reply) retries e = absurd (cc)
+
+begun_lower : (o : Option DocData) (retries : ℕ) → left_in (begun o) retries < 3 + 3 * retries
+begun_lower None retries = omega arith
+begun_lower (Some doc) retries = omega arith
+
+run_lower : (doc : DocData) (made : Made) (retries : ℕ) → left_in (run_made doc made) retries < 2 + 3 * retries
+run_lower doc (Writes change) retries = omega arith
+run_lower doc Nothing retries = omega arith
+run_lower doc (Fails error) retries = omega arith
+
+again_lower : (retries : ℕ) (c : ClientData) (was found : ℕ) → left_of (again retries c was found) < 1 + 3 * retries
+again_lower zero c was found = omega arith
+again_lower (suc left) c was found = omega arith
+
+step_lower : (phase : PhaseData) (ran : ℕ → DocData → Made) (c : ClientData) (s : StoreData) → 0 < left_in phase c.retries
+    → left_of (step_in phase ran c s).client < left_in phase c.retries
+step_lower Read ran c s some = begun_lower (read c.id s) c.retries
+step_lower (Run doc) ran c s some = run_lower doc (ran c.number doc) c.retries
+step_lower (Write version change) ran c s some =
+    let test = version_at c.id s.documents == version in
+    let yes : Stepped = stepped (in_phase (Ended (change_reply (op_of change) c.id (version + 1))) c) (committed c.number c.id version change s) in
+    let no : Stepped = stepped (again c.retries c version (version_at c.id s.documents)) s in
+    elim (eqb_tells (version_at c.id s.documents) version) [
+      | inl h ↦ subst (λ (t : Stepped). left_of t.client < 1 + 3 * c.retries) (sym (chosen test yes no h.0)) (omega arith)
+      | inr h ↦ subst (λ (t : Stepped). left_of t.client < 1 + 3 * c.retries) (sym (passed test yes no h.0)) (again_lower c.retries c version (version_at c.id s.documents))
+    ]
+step_lower Keep ran c s some = omega arith
+step_lower (Ended reply) ran c s some = absurd (omega (arith, some))
+
+idle_step : (phase : PhaseData) (ran : ℕ → DocData → Made) (c : ClientData) (s : StoreData) (retries : ℕ) → left_in phase retries ≡ 0
+    → (step_in phase ran c s ≡ stepped c s) × (calls_in phase c.number ≡ [])
+idle_step Read ran c s retries none = absurd (omega (arith, none))
+idle_step (Run doc) ran c s retries none = absurd (omega (arith, none))
+idle_step (Write version change) ran c s retries none = absurd (omega (arith, none))
+idle_step Keep ran c s retries none = absurd (omega (arith, none))
+idle_step (Ended reply) ran c s retries none = (refl, refl)
+
+idle_turn : (ran : ℕ → DocData → Made) (place : ℕ) (cs : List ClientData) (s : StoreData) → left_at left_of place cs ≡ 0
+    → (turn ran place cs s ≡ world cs s) × (calls_at place cs ≡ [])
+idle_turn ran place [] s none = (refl, refl)
+idle_turn ran zero (c ∷ cs) s none =
+    let idle = idle_step c.phase ran c s c.retries none in
+    (ap (λ (t : Stepped). world (t.client ∷ cs) t.store) idle.0, idle.1)
+idle_turn ran (suc place) (c ∷ cs) s none =
+    let idle = idle_turn ran place cs s none in
+    (ap (put_before c) idle.0, idle.1)
+
+turn_at : (ran : ℕ → DocData → Made) (front : List ClientData) (c : ClientData) (behind : List ClientData) (s : StoreData)
+    → turn ran (length front) (front ++ c ∷ behind) s ≡ world (front ++ (step ran c s).client ∷ behind) (step ran c s).store
+turn_at ran [] c behind s = refl
+turn_at ran (f ∷ front) c behind s = ap (put_before f) (turn_at ran front c behind s)
+
+calls_here : (front : List ClientData) (c : ClientData) (behind : List ClientData) → calls_at (length front) (front ++ c ∷ behind) ≡ calls_in c.phase c.number
+calls_here [] c behind = refl
+calls_here (f ∷ front) c behind = calls_here front c behind
+
+paid_append : (cost : ℕ → DocData → ℕ) (xs ys : List Call) (spent : ℕ) → paid cost (xs ++ ys) spent ≡ paid cost ys (paid cost xs spent)
+paid_append cost [] ys spent = refl
+paid_append cost (x ∷ xs) ys spent = paid_append cost xs ys (counted spent (cost x.client x.doc))
+
+-- ---- with a runner
+
+module _ {R : Type 0} (ran : R → ℕ → DocData → Made) (cost : R → ℕ → DocData → ℕ) (spent : R → ℕ) where
+  pub asked_none : (r : R) → Asked ran cost spent [] r r
+  asked_none r = record { means = refl; costs = refl; pays = refl }
+
+  asked_on : (xs ys : List Call) (r mid r' : R) → Asked ran cost spent xs r mid → Asked ran cost spent ys mid r' → Asked ran cost spent (xs ++ ys) r r'
+  asked_on xs ys r mid r' first second = record {
+    means = second.means ∙ first.means;
+    costs = second.costs ∙ first.costs;
+    pays =
+        second.pays ∙ ap (λ (f : ℕ → DocData → ℕ). paid f ys (spent mid)) first.costs ∙ ap (paid (cost r) ys) first.pays ∙ sym (paid_append (cost r) xs ys (spent r));
+  }
+
+  pub took : (old new : State ClientData StoreData R) → 0 < left_of old.tasks → Takes ran cost spent old new → IsStep left_of (Takes ran cost spent) old new
+  took old new some takes = record {
+    taken = takes;
+    lower =
+        subst (λ (n : ℕ). n < left_of old.tasks) (sym (ap (λ (t : Stepped). left_of t.client) takes.is))
+        (step_lower old.tasks.phase (ran old.runner) old.tasks old.shared some);
+  }
+
+  record IsTurn (place : ℕ) (old new : State (List ClientData) StoreData R) : Type 0 where
+    pub is : world new.tasks new.shared ≡ turn (ran old.runner) place old.tasks old.shared
+    pub asked : Asked ran cost spent (calls_at place old.tasks) old.runner new.runner
+
+  is_turn : (place : ℕ) (old new : State (List ClientData) StoreData R) → HasTurn left_of (Takes ran cost spent) place old new → IsTurn place old new
+  is_turn place old new (inl (none, same)) =
+      let idle = idle_turn (ran old.runner) place old.tasks old.shared none in
+      record {
+        is = ap (λ (t : State (List ClientData) StoreData R). world t.tasks t.shared) same ∙ sym idle.0;
+        asked =
+            subst (λ (l : List Call). Asked ran cost spent l old.runner new.runner) (sym idle.1)
+            (subst (λ (t : State (List ClientData) StoreData R). Asked ran cost spent [] old.runner t.runner) (sym same) (asked_none old.runner));
+      }
+  is_turn place old new (inr steps) =
+      let one = steps.taken.taken in
+      record {
+        is =
+            ap (λ (l : List ClientData). world l new.shared) steps.left
+            ∙ ap (λ (t : Stepped). world (steps.front ++ t.client ∷ steps.behind) t.store) one.is
+            ∙ sym (turn_at (ran old.runner) steps.front steps.before steps.behind old.shared)
+            ∙ ap (λ (l : List ClientData). turn (ran old.runner) (length steps.front) l old.shared) (sym steps.found)
+            ∙ ap (λ (n : ℕ). turn (ran old.runner) n old.tasks old.shared) steps.stands;
+        asked =
+            subst (λ (l : List Call). Asked ran cost spent l old.runner new.runner)
+            (sym (calls_here steps.front steps.before steps.behind) ∙ ap (λ (l : List ClientData). calls_at (length steps.front) l) (sym steps.found)
+            ∙ ap (λ (n : ℕ). calls_at n old.tasks) steps.stands)
+            one.asked;
+      }
+
+  record AreTurns (places : List ℕ) (old new : State (List ClientData) StoreData R) : Type 0 where
+    pub is : world new.tasks new.shared ≡ turns (ran old.runner) places (world old.tasks old.shared)
+    pub asked : Asked ran cost spent (calls (ran old.runner) places (world old.tasks old.shared)) old.runner new.runner
+
+  are_turns : (places : List ℕ) (old new : State (List ClientData) StoreData R) → HaveTurns left_of (Takes ran cost spent) places old new → AreTurns places old new
+  are_turns [] old new same = record {
+    is = ap (λ (t : State (List ClientData) StoreData R). world t.tasks t.shared) same;
+    asked = subst (λ (t : State (List ClientData) StoreData R). Asked ran cost spent [] old.runner t.runner) (sym same) (asked_none old.runner);
+  }
+  are_turns (place ∷ places) old new (mid, one, more) =
+      let first : IsTurn place old mid = is_turn place old mid one in
+      let rest : AreTurns places mid new = are_turns places mid new more in
+      record {
+        is =
+            rest.is ∙ ap (λ (f : ℕ → DocData → Made). turns f places (world mid.tasks mid.shared)) first.asked.means
+            ∙ ap (turns (ran old.runner) places) first.is;
+        asked =
+            asked_on (calls_at place old.tasks) (calls (ran old.runner) places (turn (ran old.runner) place old.tasks old.shared)) old.runner mid.runner new.runner first.asked
+            (subst (λ (l : List Call). Asked ran cost spent l mid.runner new.runner)
+            (ap (λ (f : ℕ → DocData → Made). calls f places (world mid.tasks mid.shared)) first.asked.means ∙ ap (calls (ran old.runner) places) first.is)
+            rest.asked);
+      }
+
+  -- what the turns of all clients come to
+  pub record Updates (order : List ℕ) (old new : State (List ClientData) StoreData R) : Type 0 where
+    pub made : List Call
+    pub updated : IsUpdated (ran old.runner) order (world old.tasks old.shared) (world new.tasks new.shared) made
+    pub asked : Asked ran cost spent made old.runner new.runner
+
+  pub updates : (order : List ℕ) (old new : State (List ClientData) StoreData R) → AllStep left_of (Takes ran cost spent) order old new → Updates order old new
+  updates order old new all =
+      let places = order ++ rounds all.count (length old.tasks) in
+      let turned : AreTurns places old new = are_turns places old new all.turns in
+      record {
+        made = calls (ran old.runner) places (world old.tasks old.shared);
+        updated = record { count = all.count; is = turned.is; called = refl; ended = all.done };
+        asked = turned.asked;
+      }
