@@ -111,7 +111,7 @@ fn classes_have_constructors(rt: HostRuntime) -> Result<(), Fail> {
 
 /// What a function value calls.
 #[derive(Clone, Copy)]
-pub enum Calls {
+enum Calls {
     /// A lambda that captured so many values and has so many parameters.
     Lambda(u32, u32),
     Member(u32, &'static str),
@@ -169,8 +169,7 @@ fn made(alloc: Global, ty: Ty) -> Result<Target, AllocError> {
     Ok(Target::New(Boxed::new(alloc, ty)?))
 }
 
-/// The target of a function value.
-pub fn target(alloc: Global, calls: Calls) -> Result<Target, AllocError> {
+fn target(alloc: Global, calls: Calls) -> Result<Target, AllocError> {
     match calls {
         Calls::Lambda(_, _) => Ok(Target::Lambda(Owner::Script, 0)),
         Calls::Member(class, name) => {
@@ -188,8 +187,7 @@ pub fn target(alloc: Global, calls: Calls) -> Result<Target, AllocError> {
     }
 }
 
-/// How many values it captured, and how many parameters are told of it.
-pub fn counts(calls: Calls) -> (u32, u32) {
+fn counts(calls: Calls) -> (u32, u32) {
     match calls {
         Calls::Lambda(captured, params) => (captured, params),
         _ => (0, 7),

@@ -76,6 +76,9 @@ fn leaves(
         spent: 0,
     };
     let clients = crowd(alloc, 10000, retries)?;
+    if clients.len() >= 4_294_967_296 {
+        return Ok(false);
+    }
     let replies = run_updates(&mut store, &mut runner, clients, order)?;
     Ok(replies.len() == 10000 && have(&store, version, commits))
 }

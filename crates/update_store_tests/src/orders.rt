@@ -40,6 +40,9 @@ fn comes_so(
         spent: 0,
     };
     let clients = clients_of(alloc, rows.as_slice())?;
+    if clients.len() >= 4_294_967_296 {
+        return Ok(false);
+    }
     let replies = run_updates(&mut store, &mut runner, clients, order)?;
     let told = replies_shown(alloc, replies.as_slice())?;
     let left = store_shown(alloc, &store)?;

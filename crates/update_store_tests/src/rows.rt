@@ -173,6 +173,9 @@ fn comes_so(alloc: Global, row: &Row) -> Result<bool, AllocError> {
         spent: 0,
     };
     let clients = clients_of(alloc, row.clients)?;
+    if clients.len() >= 4_294_967_296 {
+        return Ok(false);
+    }
     let replies = run_updates(&mut store, &mut runner, clients, row.order)?;
     let told = replies_shown(alloc, replies.as_slice())?;
     let left = store_shown(alloc, &store)?;

@@ -1,6 +1,0 @@
-pub mod Applying
-pub mod Coming
-pub mod Laws
-pub mod Passing
-pub mod Paying
-pub mod Targets

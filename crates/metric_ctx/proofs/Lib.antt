@@ -1,4 +1,0 @@
-pub mod Beginning
-pub mod Giving
-pub mod Moving
-pub mod Splitting

@@ -1,5 +1,0 @@
-pub mod Keys
-pub mod Laws
-pub mod Lines
-pub mod Placing
-pub mod Replies
