@@ -1,5 +1,4 @@
 pub mod Answers
-pub mod Coding
 pub mod Forms
 pub mod Keys
 pub mod Paths

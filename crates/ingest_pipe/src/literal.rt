@@ -16,7 +16,7 @@ pub struct Literal {
 impl Model for Literal {
     ghost use Rattle.serde_json.specs.Data.{Data};
     ghost use Rattle.serde_json.specs.View as of;
-    ghost use Rattle.ingest_pipe.specs.Coding.{data_code};
+    ghost use Rattle.json_codes.specs.Coding.{data_code};
 
     ghost Value = { Data };
 
