@@ -1,5 +1,6 @@
 -- What entries that go into a list weigh, and how they are paid.
 use Rattle.std.proofs.Common.{◌≡◌, ℕ, zero, suc, ◌+◌, ◌-◌, ◌*◌, ◌<◌, ◌≤◌, Bool, true, false, Option, Some, None, List, [], ◌∷◌, ◌++◌, length, take, drop, refl, ap, sym, ◌∙◌, subst, arith, length-append, slice_get, if◌then◌else◌}
+use Rattle.std.proofs.lemmas.Bool.{cond_both}
 use Rattle.object_values.specs.declared.object.Guard.{Guard}
 use Rattle.object_values.specs.declared.object.Guard.TheVariants as g
 use Rattle.object_values.specs.declared.object.Object.{Object}
@@ -7,8 +8,10 @@ use Rattle.object_values.specs.declared.object.Object.TheVariants as o
 use Rattle.object_values.specs.declared.value.Value.{Value}
 use Rattle.object_heap.specs.Effects.{Gives, NoRoom, after_paying, gives_paid}
 use Rattle.object_heap.specs.Objects.{AList, changed_by, may_become, renewed_by, weight_of}
+use Rattle.object_heap.specs.Parts.{asked, frozen_of, is_frozen, open_at}
 use Rattle.object_heap.specs.Paying.{PaysSurely}
-use Rattle.object_heap.specs.Store.{Store, paid, weight, with_change}
+use Rattle.object_heap.specs.Store.{Store, changed_one, paid, weight, with_change}
+use Rattle.object_heap.proofs.Fronting.{open_changes}
 use Rattle.object_heap.proofs.Growth.{cons_changed}
 use Rattle.object_heap.proofs.KindLemmas.{becomes_refl}
 use Rattle.object_heap.proofs.Paying.{paid_if, paid_not}
@@ -30,7 +33,7 @@ pub with_entries : (objects : List Object) (map : ℕ) (keys : List Value) → w
 with_entries objects map keys = omega (arith, weight_joined objects (entries_under map keys), entries_weigh map keys)
 
 change_weighs : (objects : List Object) (id : ℕ) (change : Object → Object) (old : Object) → slice_get objects id ≡ Some old
-    → weight (with_change objects id change) + weight_of old ≡ weight objects + weight_of (change old)
+    → weight (changed_one objects id change) + weight_of old ≡ weight objects + weight_of (change old)
 change_weighs [] id change old h = cc
 change_weighs (x ∷ objects) zero change old h = let same : x ≡ old = cc in omega (arith, ap weight_of same, ap (λ (y : Object). weight_of (change y)) same)
 change_weighs (x ∷ objects) (suc id) change old h =
@@ -57,32 +60,43 @@ own_weight : (class : ℕ) (items : List Value) (guard : Guard) (changes : ℕ) 
 unfolding weight_of
 own_weight class items guard changes = refl
 
-grown_weighs : (objects made : List Object) (list at : ℕ) (more : List Value) (found : Option Object) (object : Object) → slice_get objects list ≡ found → grown at more found ≡ Some object
-    → weight (with_change (objects ++ made) list (renewed_by object)) ≡ weight (objects ++ made) + length more
-grown_weighs objects made list at more None object e h = cc
-grown_weighs objects made list at more (Some (o.List class items guard changes)) object e h =
+still_open : (objects more : List Object) (id : ℕ) (object : Object) → slice_get objects id ≡ Some object → frozen_of objects id ≡ false → frozen_of (objects ++ more) id ≡ false
+still_open objects more id object e h =
+    let here : frozen_of objects id ≡ is_frozen object = ap (asked is_frozen false) e in ap (asked is_frozen false) (still_there objects more id object e) ∙ (sym here ∙ h)
+
+grown_weighs : (objects made : List Object) (list at : ℕ) (more : List Value) (found : Option Object) (object : Object) → slice_get objects list ≡ found → frozen_of objects list ≡ false
+    → grown at more found ≡ Some object → weight (with_change (objects ++ made) list (renewed_by object)) ≡ weight (objects ++ made) + length more
+grown_weighs objects made list at more None object e p h = cc
+grown_weighs objects made list at more (Some (o.List class items guard changes)) object e p h =
     let whole : List Value = take at items ++ more ++ drop at items in
     let same : o.List class whole g.Open (changed_by changes (length more)) ≡ object = cc in
     subst (λ (x : Object). weight (with_change (objects ++ made) list (renewed_by x)) ≡ weight (objects ++ made) + length more) same
     (omega (
       arith,
+      ap weight (open_changes (objects ++ made) list (renewed_by (o.List class whole g.Open (changed_by changes (length more)))) (still_open objects made list (o.List class items guard changes) e p)),
       change_weighs (objects ++ made) list (renewed_by (o.List class whole g.Open (changed_by changes (length more)))) (o.List class items guard changes) (still_there objects made list (o.List class items guard changes) e),
       list_weighs class class items whole guard g.Open changes (changed_by changes (length more)) refl,
       own_weight class items guard changes,
       between at items more,
     ))
-grown_weighs objects made list at more (Some object') object e h = cc
+grown_weighs objects made list at more (Some object') object e p h = cc
 
-pub entered_weighs : (objects : List Object) (list at map : ℕ) (keys more : List Value) (object : Object) → length more ≡ length keys → grown at more (slice_get objects list) ≡ Some object
+open_weighs : (objects made : List Object) (list at : ℕ) (more : List Value) (object : Object) → grown at more (open_at objects list) ≡ Some object
+    → weight (with_change (objects ++ made) list (renewed_by object)) ≡ weight (objects ++ made) + length more
+open_weighs objects made list at more object =
+    cond_both (frozen_of objects list) None (slice_get objects list)
+    (λ (found : Option Object). grown at more found ≡ Some object → weight (with_change (objects ++ made) list (renewed_by object)) ≡ weight (objects ++ made) + length more) (λ _. λ h. cc)
+    (λ p. λ h. grown_weighs objects made list at more (slice_get objects list) object refl p h)
+
+pub entered_weighs : (objects : List Object) (list at map : ℕ) (keys more : List Value) (object : Object) → length more ≡ length keys → grown at more (open_at objects list) ≡ Some object
     → weight (with_change (objects ++ entries_under map keys) list (renewed_by object)) ≡ weight objects + 4 * length keys
-entered_weighs objects list at map keys more object e h =
-    omega (arith, grown_weighs objects (entries_under map keys) list at more (slice_get objects list) object refl h, with_entries objects map keys, e)
+entered_weighs objects list at map keys more object e h = omega (arith, open_weighs objects (entries_under map keys) list at more object h, with_entries objects map keys, e)
 
 pub entries_made : (objects : List Object) (map : ℕ) (keys : List Value) (made : List Object) (count : ℕ) → made ≡ entries_under map keys → count ≡ length keys → weight (objects ++ made) ≡ weight objects + 3 * count
 entries_made objects map keys made count e n = ap (λ (m : List Object). weight (objects ++ m)) e ∙ (with_entries objects map keys ∙ ap (λ (k : ℕ). weight objects + 3 * k) (sym n))
 
 pub list_made : (objects : List Object) (list at map : ℕ) (keys more : List Value) (object : Object) (made : List Object) (count : ℕ) → made ≡ entries_under map keys → count ≡ length keys → length more ≡ length keys
-    → grown at more (slice_get objects list) ≡ Some object → weight (with_change (objects ++ made) list (renewed_by object)) ≡ weight objects + 4 * count
+    → grown at more (open_at objects list) ≡ Some object → weight (with_change (objects ++ made) list (renewed_by object)) ≡ weight objects + 4 * count
 list_made objects list at map keys more object made count e n l h =
     ap (λ (m : List Object). weight (with_change (objects ++ m) list (renewed_by object))) e
     ∙ (entered_weighs objects list at map keys more object l h ∙ ap (λ (k : ℕ). weight objects + 4 * k) (sym n))

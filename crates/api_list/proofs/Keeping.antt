@@ -10,8 +10,9 @@ use Rattle.object_values.specs.declared.value.Value.{Value}
 use Rattle.object_heap.specs.Fits.{Rules, Typed, Fits, ValueFits, AllFit, ItemFits, ObjectFits, ObjectsFit, kinds}
 use Rattle.object_heap.specs.Objects.{Kind, with_item}
 use Rattle.object_heap.specs.Parts.{items_of}
-use Rattle.object_heap.specs.Store.{with_change}
+use Rattle.object_heap.specs.Store.{changed_one, with_change}
 use Rattle.object_heap.proofs.Fitting.{items_fit}
+use Rattle.object_heap.proofs.Fronting.{whether}
 use Rattle.object_heap.proofs.Growth.{cons_changed}
 use Rattle.member_arguments.specs.Arguments.{int_at, object_at}
 use Rattle.api_list.specs.declared.member.Member.{Member}
@@ -135,10 +136,13 @@ with_item_list : (at : ℕ) (item : Value) (object : Object) → IsList (Some ob
 with_item_list at item (o.List class items guard changes) h = tt
 with_item_list at item object h = absurd h
 
+one_list : (objects : List Object) (id at : ℕ) (item : Value) → IsList (slice_get objects id) → IsList (slice_get (changed_one objects id (with_item at item)) id)
+one_list [] id at item h = absurd h
+one_list (x ∷ objects) zero at item h = with_item_list at item x h
+one_list (x ∷ objects) (suc id) at item h = rw (cons_changed x objects id (with_item at item) (slice_get objects id)) (one_list objects id at item h)
+
 stays_list : (objects : List Object) (id at : ℕ) (item : Value) → IsList (slice_get objects id) → IsList (slice_get (with_change objects id (with_item at item)) id)
-stays_list [] id at item h = absurd h
-stays_list (x ∷ objects) zero at item h = with_item_list at item x h
-stays_list (x ∷ objects) (suc id) at item h = rw (cons_changed x objects id (with_item at item) (slice_get objects id)) (stays_list objects id at item h)
+stays_list objects id at item h = whether objects id (with_item at item) (λ (after : List Object). IsList (slice_get after id)) h (one_list objects id at item h)
 
 both_fit : (rules : Rules) (objects : List Object) (list at other_at : ℕ) (item other : Option Value) → IsList (slice_get objects list) → ((value : Value) → item ≡ Some value → ValueFits (length objects) value)
     → ((value : Value) → other ≡ Some value → ValueFits (length objects) value) → OutcomeFits rules objects (lists.items_swapped list at other_at item other)

@@ -1,6 +1,6 @@
 -- What the members that take all elements of a collection come to fits the store.
 use Rattle.std.proofs.Common.{◌≡◌, ℕ, zero, suc, ◌==◌, ◌≤◌, ◌<◌, ℤ, Bool, true, false, Option, Some, None, List, [], ◌∷◌, ◌++◌, length, take, drop, refl, ap, sym, ◌∙◌, subst, arith, slice_get, if◌then◌else◌, length-append}
-use Rattle.std.proofs.lemmas.Bool.{eqb-true}
+use Rattle.std.proofs.lemmas.Bool.{cond_both, eqb-true}
 use Rattle.std.proofs.lemmas.Option.{slice_get_within}
 use Rattle.pl_types.specs.declared.classes.TheConstants.{ARRAY_LIST}
 use Rattle.pl_types.specs.declared.ty.Ty.TheFolds.{fold-roll-Ty}
@@ -16,7 +16,7 @@ use Rattle.object_values.specs.declared.value.Value.TheVariants as v
 use Rattle.object_heap.specs.Effects as effects
 use Rattle.object_heap.specs.Fits.{Rules, Typed, Every, Primitives, Fits, AllFit, AreElements, EffectFits, ObjectFits, has_layer, is_element, is_type, kinds, layer_asked, layer_is_type}
 use Rattle.object_heap.specs.Objects.{Kind, changed_by, renewed_by}
-use Rattle.object_heap.specs.Parts.{guard_of, items_of}
+use Rattle.object_heap.specs.Parts.{frozen_of, guard_of, items_of, open_at}
 use Rattle.object_heap.specs.Store.{Store, with_change}
 use Rattle.object_heap.proofs.Fitting.{length-kinds, renew_fits}
 use Rattle.object_heap.proofs.Keeping.{after_fits}
@@ -135,6 +135,13 @@ list_grown_fits rules objects container at list (Some (o.List class items guard 
     )
 list_grown_fits rules objects container at list (Some object') object f e h = cc
 
+open_grown_fits : (rules : Rules) (objects : List Object) (container : Container) (at list : ℕ) (object : Object) → Fits rules objects
+    → taking.grown at (entry_references objects container) (open_at objects list) ≡ Some object → ObjectFits rules (kinds (objects ++ entries_of objects container)) object
+open_grown_fits rules objects container at list object f =
+    cond_both (frozen_of objects list) None (slice_get objects list)
+    (λ (found : Option Object). taking.grown at (entry_references objects container) found ≡ Some object → ObjectFits rules (kinds (objects ++ entries_of objects container)) object) (λ _. λ e. cc)
+    (λ _. λ e. list_grown_fits rules objects container at list (slice_get objects list) object f refl e)
+
 entered_as_fits : (rules : Rules) (store : Store) (list : ℕ) (container : Container) (grown : Option Object) → Fits rules store.objects → ContainerFits (kinds store.objects) (Some container)
     → ((object : Object) → grown ≡ Some object → ObjectFits rules (kinds (store.objects ++ entries_of store.objects container)) object) → EffectFits rules (taking.entered_as store list container grown)
 entered_as_fits rules store list container None f h k = (f, tt)
@@ -144,8 +151,8 @@ entered_as_fits rules store list container (Some object) f h k =
 
 entered_fits : (rules : Rules) (store : Store) (list at : ℕ) (container : Container) → Fits rules store.objects → ContainerFits (kinds store.objects) (Some container) → EffectFits rules (taking.entered store list at container)
 entered_fits rules store list at container f h =
-    entered_as_fits rules store list container (taking.grown at (entry_references store.objects container) (slice_get store.objects list)) f h
-    (λ object e. list_grown_fits rules store.objects container at list (slice_get store.objects list) object f refl e)
+    entered_as_fits rules store list container (taking.grown at (entry_references store.objects container) (open_at store.objects list)) f h
+    (λ object e. open_grown_fits rules store.objects container at list object f e)
 
 -- what is told fits
 abbrev pub ToldFits : Rules → List Object → Told → Type 0

@@ -1,6 +1,6 @@
 -- The members that take all elements of a collection: into a new list, a new array, or a list that is there. The entries that a view
 -- shows are made for it, and stand behind the objects that there were.
-use Rattle.std.specs.Prelude.{◌≡◌, ℕ, ℤ, ◌-◌, ◌==◌, nat_lt, Bool, true, false, Option, Some, None, List, ◌++◌, length, take, drop, slice_get, if◌then◌else◌}
+use Rattle.std.specs.Prelude.{◌≡◌, ℕ, ℤ, ◌-◌, ◌==◌, nat_lt, Bool, true, false, Option, Some, None, List, ◌++◌, length, take, drop, if◌then◌else◌}
 use Rattle.pl_types.specs.declared.classes.TheConstants.{ARRAY_LIST}
 use Rattle.pl_types.specs.declared.ty.Ty.TheVariants.{Def}
 use Rattle.object_values.specs.declared.object.Guard.TheVariants as g
@@ -11,7 +11,7 @@ use Rattle.object_values.specs.declared.value.Value.TheVariants as v
 use Rattle.object_heap.specs.declared.answer.Answer.{Answer}
 use Rattle.object_heap.specs.Effects.{Effect, Gives, gives_paid}
 use Rattle.object_heap.specs.Objects.{changed_by, renewed_by}
-use Rattle.object_heap.specs.Parts.{guard_of, items_of}
+use Rattle.object_heap.specs.Parts.{guard_of, items_of, open_at}
 use Rattle.object_heap.specs.Store.{Store, weight, with_change}
 use Rattle.member_arguments.specs.Arguments.{int_at}
 use Rattle.container_parts.specs.declared.containers.Container.{Container}
@@ -63,7 +63,7 @@ entered_as store list container None = Gives (v.Bool false) store
 entered_as store list container (Some object) = gives_paid store (with_change (store.objects ++ entries_of store.objects container) list (renewed_by object)) (v.Bool true)
 
 abbrev pub entered : Store → ℕ → ℕ → Container → Effect
-entered store list at container = entered_as store list container (grown at (entry_references store.objects container) (slice_get store.objects list))
+entered store list at container = entered_as store list container (grown at (entry_references store.objects container) (open_at store.objects list))
 
 -- what a member comes to: an outcome, or entries that are made and go into a list
 abbrev pub told_effect : Store → Told → Effect

@@ -1,8 +1,9 @@
 //! Entries that are made and go into a list, which is paid together.
-ghost use Rattle.std.specs.Prelude.{◌≡◌, ◌+◌, ◌-◌, ◌*◌, ◌≤◌, ◌<◌, ◌++◌, true, false, IfOk, OnOk, Some, slice_get, take, drop};
+ghost use Rattle.std.specs.Prelude.{◌≡◌, ◌+◌, ◌-◌, ◌*◌, ◌≤◌, ◌<◌, ◌++◌, true, false, IfOk, OnOk, Some, take, drop};
 ghost use Rattle.object_values.specs.declared.value.Value.TheVariants as v;
 ghost use Rattle.object_heap.specs.Effects.{Answers, gives_paid};
 ghost use Rattle.object_heap.specs.Objects.{renewed_by};
+ghost use Rattle.object_heap.specs.Parts.{open_at};
 ghost use Rattle.object_heap.specs.Store.{weight, with_change};
 ghost use Rattle.container_values.specs.Elements.{entry_references};
 ghost use Rattle.api_list.specs.Taking as spec;
@@ -84,15 +85,18 @@ fn list_with(
     }
 }
 
-// The list with references to the entries.
+// The list with references to the entries, if something may change it.
 fn list_grown(
     heap: &Heap,
     list: u32,
     at: usize,
     container: Container,
 ) -> Result<Option<Object>, AllocError>
-    ensures { IfOk result (λ found. found ≡ spec.grown at (entry_references heap.now.objects container) (slice_get heap.now.objects list)) }
+    ensures { IfOk result (λ found. found ≡ spec.grown at (entry_references heap.now.objects container) (open_at heap.now.objects list)) }
 {
+    if heap.is_frozen(list) {
+        return Ok(None);
+    }
     let more = entry_references(heap, container)?;
     match heap.get(list) {
         Some(object) => list_with(heap, object, at, more.as_slice()),
@@ -168,7 +172,7 @@ fn enter_list(
 
 // Makes the entries for a list that has grown by them.
 fn enter_as(heap: &mut Heap, list: u32, at: usize, container: Container, object: Object) -> Answer
-    requires { spec.grown at (entry_references heap.old.objects container) (slice_get heap.old.objects list) ≡ Some object }
+    requires { spec.grown at (entry_references heap.old.objects container) (open_at heap.old.objects list) ≡ Some object }
     ensures { Answers (spec.entered_as heap.old list container (Some object)) heap.old heap.new result }
 {
     let count = entry_count(heap, container);

@@ -20,6 +20,7 @@ use Rattle.object_heap.specs.Fits.{Typed, Every, Primitives, Rules, Fits, ValueF
 use Rattle.object_heap.specs.Objects.{Kind, with_units, renewed_by}
 use Rattle.object_heap.specs.Store.{Store, changed_at, with_change}
 use Rattle.object_heap.proofs.Fitting.{added_fits, append_fits, renew_fits}
+use Rattle.object_heap.proofs.Fronting.{whether}
 use Rattle.object_heap.proofs.Keeping.{after_fits, throws_fits}
 use Rattle.value_walks.specs.Texts.{Node, Text, Wrote, TooDeep, TooLarge}
 use Rattle.api_text.specs.declared.outcome.ExceptionClass.{ExceptionClass}
@@ -73,7 +74,8 @@ length_changed objects id change None = refl
 length_changed objects id change (Some object) = length-set objects id (change object)
 
 still_fits : (objects : List Object) (id : ℕ) (change : Object → Object) (value : Value) → ValueFits (length objects) value → ValueFits (length (with_change objects id change)) value
-still_fits objects id change value h = subst (λ (n : ℕ). ValueFits n value) (sym (length_changed objects id change (slice_get objects id))) h
+still_fits objects id change value h =
+    whether objects id change (λ (after : List Object). ValueFits (length after) value) h (subst (λ (n : ℕ). ValueFits n value) (sym (length_changed objects id change (slice_get objects id))) h)
 
 chars_is : is_type (ty.Prim prim.Char) ≡ true
 unfolding is_type

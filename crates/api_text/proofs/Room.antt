@@ -1,9 +1,9 @@
 -- Where there is no room for what is made.
-use Rattle.std.proofs.Common.{◌≡◌, ℕ, suc, ◌+◌, ◌-◌, ◌<◌, ◌≤◌, min, true, Option, Some, None, List, [], ◌∷◌, ◌++◌, length, take, slice_get, inl, inr, refl, ap, sym, subst, ◌∙◌, arith, length-append}
+use Rattle.std.proofs.Common.{◌≡◌, ℕ, ℤ, suc, ◌+◌, ◌-◌, ◌<◌, ◌≤◌, min, true, false, Option, Some, None, List, [], ◌∷◌, ◌++◌, length, take, drop, slice_get, inl, inr, refl, ap, sym, subst, ◌∙◌, arith, length-append}
 use Rattle.std.proofs.lemmas.Bool.{cases_lt}
 use Rattle.std.proofs.lemmas.Bool.Decides.{nat_tests}
 use Rattle.std.specs.Prelude.{Ok, map, replicate}
-use Rattle.std.proofs.lemmas.List.{length-map, length-replicate, length-take}
+use Rattle.std.proofs.lemmas.List.{length-drop, length-map, length-replicate, length-take}
 use Rattle.pl_types.specs.declared.classes.TheConstants.{STRING}
 use Rattle.pl_types.specs.declared.primitive.Primitive.TheVariants as prim
 use Rattle.pl_types.specs.declared.ty.Ty.{Ty}
@@ -14,12 +14,13 @@ use Rattle.object_values.specs.declared.object.Object.{Object}
 use Rattle.object_values.specs.declared.object.Object.TheVariants as o
 use Rattle.object_heap.specs.Effects.{Gives, NoRoom}
 use Rattle.object_heap.specs.Objects.{weight_of, renewed_by, renewal_growth, units_growth, with_units}
-use Rattle.object_heap.specs.Parts.{asked, object_units, units_of}
+use Rattle.object_heap.specs.Parts.{asked, frozen_of, is_frozen, object_units, units_of}
 use Rattle.object_heap.specs.Store.{Store, paid, charge, weight, with_change}
+use Rattle.object_heap.proofs.Fronting.{open_grows}
 use Rattle.object_heap.proofs.Growth.{add_grows, append_grows, renewal_grows}
 use Rattle.object_heap.proofs.Paying.{charged, not_charged, paid_if, paid_not}
 use Rattle.api_text.specs.declared.outcome.Outcome.TheVariants.{Extends, Makes}
-use Rattle.api_text.specs.Builders.{is_builder, set_there, units_resized}
+use Rattle.api_text.specs.Builders.{is_builder, put_at, put_in, set_there, units_resized}
 use Rattle.api_text.specs.Making.{array_of, chars_of, cost_of}
 use Rattle.value_walks.specs.declared.outputs.Output.{Output}
 use Rattle.value_walks.specs.declared.outputs.Output.TheVariants.{Kept, Over}
@@ -27,6 +28,7 @@ use Rattle.value_walks.specs.Outputs.{kept_in}
 use Rattle.value_walks.specs.Texts.{Text, Wrote, TooDeep, TooLarge, GivesWithin, IsLonger}
 use Rattle.api_text.specs.declared.outcome.Outcome.{Outcome}
 use Rattle.api_text.specs.Outcomes.{Tells, effect, followed_by, gives_new, too_deep, too_large}
+use Rattle.api_text.specs.Sequences.{index_error, place_within}
 use Rattle.api_text.specs.Writing.{told_of}
 
 -- a text costs its units and 1
@@ -52,6 +54,11 @@ pub large_told : (store : Store) (walk : Text) (result : Outcome) → walk ≡ T
 large_told store walk result h told = subst (λ (w : Text). Tells store (followed_by w Makes) result) (sym h) told
 
 -- a builder that a text is written to grows by its units
+-- a builder is not frozen
+unfrozen : (objects : List Object) (id : ℕ) (found : Option Object) → slice_get objects id ≡ found → is_builder found ≡ true → frozen_of objects id ≡ false
+unfrozen objects id (Some (o.Builder units)) e h = ap (λ (f : Option Object). asked is_frozen false f) e
+unfrozen objects id found e h = absurd (cc)
+
 grown : (text : List ℕ) (found : Option Object) → is_builder found ≡ true → asked (units_growth (length text)) 0 found ≡ length text
 grown text (Some (o.Builder units)) h = refl
 grown text found h = absurd (cc)
@@ -59,7 +66,8 @@ grown text found h = absurd (cc)
 pub no_room_to_grow : (store : Store) (builder : ℕ) (walk : Text) → is_builder (slice_get store.objects builder) ≡ true → IsLonger store.room walk
     → effect store (followed_by walk (Extends builder)) ≡ NoRoom
 no_room_to_grow store builder (Wrote text visits) h l =
-    rw (paid_not store (with_change store.objects builder (with_units text)) (length text) (append_grows store.objects builder text ∙ grown text (slice_get store.objects builder) h) l) refl
+    rw (paid_not store (with_change store.objects builder (with_units text)) (length text) (open_grows store.objects builder (length text) (with_units text) (unfrozen store.objects builder (slice_get store.objects builder) refl h)
+    (append_grows store.objects builder text ∙ grown text (slice_get store.objects builder) h)) l) refl
 no_room_to_grow store builder TooDeep h l = absurd l
 no_room_to_grow store builder TooLarge h l = absurd l
 
@@ -101,7 +109,36 @@ no_room_for_length store builder count units found h =
     ap (asked (renewal_growth (o.Builder after)) 0) (sym found) ∙ builder_grows after units in
     let kept : length (take count units) ≡ min count (length units) = length-take count units in
     let more : store.room < length after - length units = omega arith in
-    rw (paid_not store (with_change store.objects builder (renewed_by (o.Builder after))) (length after - length units) (renewal_grows store.objects builder (o.Builder after) ∙ growth) more) refl
+    rw (paid_not store (with_change store.objects builder (renewed_by (o.Builder after))) (length after - length units) (open_grows store.objects builder (length after - length units) (renewed_by (o.Builder after)) (ap (asked is_frozen false) (sym found)) (renewal_grows store.objects builder (o.Builder after) ∙ growth)) more) refl
+
+-- a text that goes into a builder
+inserted_length : (units text : List ℕ) (place : ℕ) → length (take place units ++ text ++ drop place units) ≡ length units + length text
+inserted_length units text place =
+    omega (arith, length-append (take place units ++ text) (drop place units), length-append (take place units) text, length-take place units, length-drop place units)
+
+grown_by : (after text : List ℕ) (found : Option Object) → is_builder found ≡ true → length after ≡ length (asked object_units [] found) + length text → asked (renewal_growth (o.Builder after)) 0 found ≡ length text
+grown_by after text (Some (o.Builder units)) h e = let more : length after - length units ≡ length text = omega (arith, e) in builder_grows after units ∙ more
+grown_by after text found h e = absurd (cc)
+
+pub no_room_to_insert : (store : Store) (builder : ℕ) (at : ℤ) (place : ℕ) (walk : Text) → is_builder (slice_get store.objects builder) ≡ true
+    → Some place ≡ place_within 0 (length (units_of store.objects builder)) at → IsLonger store.room walk → effect store (followed_by walk (put_at builder (units_of store.objects builder) at)) ≡ NoRoom
+no_room_to_insert store builder at place (Wrote text visits) h e l =
+    let units = units_of store.objects builder in
+    let after = take place units ++ text ++ drop place units in
+    let growth : asked (renewal_growth (o.Builder after)) 0 (slice_get store.objects builder) ≡ length text = grown_by after text (slice_get store.objects builder) h (inserted_length units text place) in
+    let full : effect store (put_in builder units at text (Some place)) ≡ NoRoom =
+    rw (paid_not store (with_change store.objects builder (renewed_by (o.Builder after))) (length text)
+    (open_grows store.objects builder (length text) (renewed_by (o.Builder after)) (unfrozen store.objects builder (slice_get store.objects builder) refl h) (renewal_grows store.objects builder (o.Builder after) ∙ growth)) l) refl in
+    ap (λ (p : Option ℕ). effect store (put_in builder units at text p)) (sym e) ∙ full
+no_room_to_insert store builder at place TooDeep h e l = absurd l
+no_room_to_insert store builder at place TooLarge h e l = absurd l
+
+-- where it has no such place
+pub no_place_to_insert : (room builder : ℕ) (units : List ℕ) (at : ℤ) (walk : Text) → None ≡ place_within 0 (length units) at → IsLonger room walk
+    → index_error at (length units) ≡ followed_by walk (put_at builder units at)
+no_place_to_insert room builder units at (Wrote text visits) e l = ap (put_in builder units at text) e
+no_place_to_insert room builder units at TooDeep e l = absurd l
+no_place_to_insert room builder units at TooLarge e l = absurd l
 
 -- an array of texts costs its weight and what the texts cost
 pub no_room_for_texts : (store : Store) (texts : List (List ℕ)) → store.room ≤ cost_of texts + length texts → effect store (array_of texts) ≡ NoRoom

@@ -1,5 +1,5 @@
 -- A builder that is changed in place.
-use Rattle.std.proofs.Common.{◌≡◌, ℕ, ℤ, ◌+◌, ◌-◌, ◌≤◌, true, false, Option, Some, None, List, [], ◌++◌, length, take, drop, slice_get, slice_set, refl, ap, sym, ◌∙◌, arith, append-nil}
+use Rattle.std.proofs.Common.{◌≡◌, ℕ, ℤ, ◌+◌, ◌-◌, ◌≤◌, true, false, Option, Some, None, List, [], ◌++◌, length, take, drop, slice_get, slice_set, refl, ap, sym, ◌∙◌, arith, append-nil, if◌then◌else◌}
 use Rattle.std.specs.Prelude.{replicate, pos, negsuc}
 use lib.IntN.{nat_abs}
 use lib.Signed.{lt_z}
@@ -9,7 +9,7 @@ use Rattle.object_values.specs.declared.object.Object.{Object}
 use Rattle.object_values.specs.declared.object.Object.TheVariants as o
 use Rattle.object_values.specs.declared.value.Value.TheVariants as v
 use Rattle.object_heap.specs.Objects.{spliced, with_spliced, renewed_by}
-use Rattle.object_heap.specs.Parts.{asked, object_units, units_of}
+use Rattle.object_heap.specs.Parts.{asked, frozen_of, object_units, units_of}
 use Rattle.object_heap.specs.Store.{changed_at, with_change}
 use Rattle.api_text.specs.declared.outcome.Outcome.TheVariants.{Becomes}
 use Rattle.api_text.specs.Builders.{deleted_there, set_there, set_to, units_resized, with_run}
@@ -31,7 +31,7 @@ found_spliced objects id from to more (Some object) h g = ap (slice_set objects 
 -- a builder that becomes what it is with a run in the place of another is changed there
 pub spliced_is : (objects : List Object) (id from to : ℕ) (more : List ℕ) → from ≤ to → to ≤ length (units_of objects id)
     → with_change objects id (renewed_by (o.Builder (take from (units_of objects id) ++ more ++ drop to (units_of objects id)))) ≡ with_change objects id (with_spliced from to more)
-spliced_is objects id from to more h g = found_spliced objects id from to more (slice_get objects id) h g
+spliced_is objects id from to more h g = ap (λ (after : List Object). if frozen_of objects id then objects else after) (found_spliced objects id from to more (slice_get objects id) h g)
 
 -- a unit that goes
 pub deleted_is : (builder : ℕ) (units : List ℕ) (place : ℕ) → with_run builder units place (place + 1) [] (v.Ref builder) ≡ deleted_there builder units place

@@ -2,6 +2,8 @@
 ghost use Rattle.std.specs.Prelude.{◌≡◌, ◌≤◌, [], true, IfOk, length, replicate, slice_get};
 ghost use Rattle.object_heap.specs.Effects.{Answers, NoRoom};
 ghost use Rattle.object_heap.specs.Parts.{units_of};
+ghost use Rattle.value_walks.specs.declared.TheConstants.{VISITS};
+ghost use Rattle.value_walks.specs.Texts.{IsLonger, text_of};
 ghost use Rattle.api_text.specs.declared.outcome.Outcome.{Outcome};
 ghost use Rattle.api_text.specs.Builders as spec;
 ghost use Rattle.api_text.specs.Builders.{is_builder, with_run};
@@ -129,8 +131,36 @@ fn put_at(heap: &mut Heap, builder: u32, at: i32, text: &[u16]) -> Answer
     }
 }
 
-// The text of a value at a place of a builder.
-fn inserted_text(heap: &mut Heap, builder: u32, at: i32, value: &Value) -> Answer
+// A text that is longer than there is room for, at a place of a builder: it is not made.
+#[tactic(auto, using(crate::proofs::Room::no_room_to_insert, crate::proofs::Room::no_place_to_insert))]
+fn put_over(heap: &mut Heap, builder: u32, at: i32, value: &Value) -> Answer
+    requires builder { is_builder (slice_get heap.old.objects builder) ≡ true }
+    requires longer { IsLonger heap.old.room (text_of heap.old.objects value.now VISITS) }
+    ensures { Answers (effect heap.old (spec.inserted heap.old.objects builder at value.now)) heap.old heap.new result }
+{
+    let count = heap.units(builder).len();
+    match place_within(0, count, at) {
+        Some(_) => Answer::Room,
+        None => index_error(heap, at, count).settle(heap),
+    }
+}
+
+// The text of a value at a place of a builder. It is made if there is room for it.
+fn inserted_to_builder(heap: &mut Heap, builder: u32, at: i32, value: &Value) -> Answer
+    requires { is_builder (slice_get heap.old.objects builder) ≡ true }
+    ensures { Answers (effect heap.old (spec.inserted heap.old.objects builder at value.now)) heap.old heap.new result }
+{
+    match text_within(heap, value, VISITS, heap.room_left()) {
+        Ok(Some(text)) => put_at(heap, builder, at, text.units()),
+        Ok(None) => put_over(heap, builder, at, value),
+        Err(TextErr::Deep) => too_deep(heap).settle(heap),
+        Err(TextErr::Large) => too_large(heap).settle(heap),
+        Err(TextErr::NoMemory) => Answer::NoMemory,
+    }
+}
+
+// The text of a value at a place of an object that is no builder, and stays as it is.
+fn inserted_to_other(heap: &mut Heap, builder: u32, at: i32, value: &Value) -> Answer
     ensures { Answers (effect heap.old (spec.inserted heap.old.objects builder at value.now)) heap.old heap.new result }
 {
     match text(heap, value, VISITS) {
@@ -138,6 +168,26 @@ fn inserted_text(heap: &mut Heap, builder: u32, at: i32, value: &Value) -> Answe
         Err(TextErr::Deep) => too_deep(heap).settle(heap),
         Err(TextErr::Large) => too_large(heap).settle(heap),
         Err(TextErr::NoMemory) => Answer::NoMemory,
+    }
+}
+
+// The same, whatever the object is.
+fn inserted_text(heap: &mut Heap, builder: u32, at: i32, value: &Value) -> Answer
+    ensures { Answers (effect heap.old (spec.inserted heap.old.objects builder at value.now)) heap.old heap.new result }
+{
+    if is_builder(heap, builder) {
+        inserted_to_builder(heap, builder, at, value)
+    } else {
+        inserted_to_other(heap, builder, at, value)
+    }
+}
+
+fn is_builder(heap: &Heap, id: u32) -> bool
+    ensures { result ≡ is_builder (slice_get heap.now.objects id) }
+{
+    match heap.get(id) {
+        Some(Object::Builder { .. }) => true,
+        _ => false,
     }
 }
 

@@ -1,5 +1,6 @@
 //! What the clauses of `job_commands` don't say: jobs with their documents, and the exact bytes that answer them.
 
+mod changes;
 mod checking;
 mod inputs;
 mod lines;

@@ -13,7 +13,7 @@ use Rattle.object_heap.specs.Effects.{Effect}
 use Rattle.object_heap.specs.Effects as e
 use Rattle.object_heap.specs.Fits.{kinds}
 use Rattle.object_heap.specs.Objects.{changed_by, AList, AMap, ASet, kind_of, renewed_by, with_all_inserted, with_all_put, with_inserted, with_item, with_key_cut, with_pair_cut, with_put, with_removed}
-use Rattle.object_heap.specs.Parts.{items_of, size_of}
+use Rattle.object_heap.specs.Parts.{items_of, open_at, size_of}
 use Rattle.object_heap.specs.Store.{Store, with_change}
 use Rattle.member_arguments.specs.Arguments.{object_at}
 use Rattle.api_map.specs.Equality.{value_now}
@@ -156,7 +156,7 @@ entered_leaves store list at more container (Some object) = there_refl store.obj
 
 told_leaves : (store : Store) (told : Told) → EffectLeaves store.objects (taking.told_effect store told)
 told_leaves store (Says told) = outcome_leaves store told
-told_leaves store (Enters list at container) = entered_leaves store list at (entry_references store.objects container) container (slice_get store.objects list)
+told_leaves store (Enters list at container) = entered_leaves store list at (entry_references store.objects container) container (open_at store.objects list)
 
 -- ---- iterators
 

@@ -8,7 +8,8 @@ use Rattle.object_heap.specs.Effects.{Effect, after_paying, throws}
 use Rattle.object_heap.specs.Effects as e
 use Rattle.object_heap.specs.Fits.{kinds}
 use Rattle.object_heap.specs.Objects.{Kind, AFunction, kind_of, may_become, renewed_by}
-use Rattle.object_heap.specs.Store.{Store, charge, paid, with_change}
+use Rattle.object_heap.specs.Store.{Store, changed_one, charge, paid, with_change}
+use Rattle.object_heap.proofs.Fronting.{whether}
 use Rattle.object_heap.proofs.Growth.{cons_changed}
 use Rattle.object_heap.proofs.KindLemmas.{becomes_refl, carried, Follows}
 use Rattle.container_calls.specs.Laws.{StayThere, StillThere, EffectLeaves, RenewalsLeaveObjects}
@@ -73,24 +74,32 @@ pub there_then : (before middle after : List Object) → StillThere before middl
 there_then before middle after there e = subst (λ (ks : List Kind). StayThere (kinds before) ks) (sym e) there
 
 -- a change that keeps the kind
+kinds-one : (objects : List Object) (id : ℕ) (change : Object → Object) → ((object : Object) → kind_of (change object) ≡ kind_of object)
+    → kinds (changed_one objects id change) ≡ kinds objects
+kinds-one [] id change h = refl
+kinds-one (x ∷ objects) zero change h = ap (λ k. k ∷ kinds objects) (h x)
+kinds-one (x ∷ objects) (suc id) change h =
+    ap kinds (cons_changed x objects id change (slice_get objects id)) ∙ ap (λ ks. kind_of x ∷ ks) (kinds-one objects id change h)
+
 pub kinds-changed : (objects : List Object) (id : ℕ) (change : Object → Object) → ((object : Object) → kind_of (change object) ≡ kind_of object)
     → kinds (with_change objects id change) ≡ kinds objects
-kinds-changed [] id change h = refl
-kinds-changed (x ∷ objects) zero change h = ap (λ k. k ∷ kinds objects) (h x)
-kinds-changed (x ∷ objects) (suc id) change h =
-    ap kinds (cons_changed x objects id change (slice_get objects id)) ∙ ap (λ ks. kind_of x ∷ ks) (kinds-changed objects id change h)
+kinds-changed objects id change h = whether objects id change (λ (after : List Object). kinds after ≡ kinds objects) refl (kinds-one objects id change h)
 
 pub there_changed : (objects : List Object) (id : ℕ) (change : Object → Object) → ((object : Object) → kind_of (change object) ≡ kind_of object)
     → StillThere objects (with_change objects id change)
 there_changed objects id change h = there_then objects objects (with_change objects id change) (there_refl objects) (kinds-changed objects id change h)
 
 -- a change that makes of an object what it may become
+one_becomes : (objects : List Object) (id : ℕ) (change : Object → Object) → ((object : Object) → may_become (kind_of object) (kind_of (change object)) ≡ true)
+    → StillThere objects (changed_one objects id change)
+one_becomes [] id change h = tt
+one_becomes (x ∷ objects) zero change h = (h x, stay_refl (kinds objects))
+one_becomes (x ∷ objects) (suc id) change h =
+    rw (cons_changed x objects id change (slice_get objects id)) (becomes_refl (kind_of x), one_becomes objects id change h)
+
 pub there_becomes : (objects : List Object) (id : ℕ) (change : Object → Object) → ((object : Object) → may_become (kind_of object) (kind_of (change object)) ≡ true)
     → StillThere objects (with_change objects id change)
-there_becomes [] id change h = tt
-there_becomes (x ∷ objects) zero change h = (h x, stay_refl (kinds objects))
-there_becomes (x ∷ objects) (suc id) change h =
-    rw (cons_changed x objects id change (slice_get objects id)) (becomes_refl (kind_of x), there_becomes objects id change h)
+there_becomes objects id change h = whether objects id change (StillThere objects) (there_refl objects) (one_becomes objects id change h)
 
 renewed_becomes : (after object : Object) (test : Bool) → may_become (kind_of object) (kind_of after) ≡ test → may_become (kind_of object) (kind_of (if test then after else object)) ≡ true
 renewed_becomes after object true h = h

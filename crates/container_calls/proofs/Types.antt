@@ -19,7 +19,7 @@ use Rattle.object_values.specs.declared.value.Value.TheVariants as v
 use Rattle.object_values.specs.Pairs.{value_of}
 use Rattle.object_heap.specs.Effects as e
 use Rattle.object_heap.specs.Objects.{renewed_by, with_all_inserted, with_all_put, with_inserted, with_put}
-use Rattle.object_heap.specs.Parts.{guard_of, items_of, pairs_of, size_of}
+use Rattle.object_heap.specs.Parts.{guard_of, items_of, open_at, pairs_of, size_of}
 use Rattle.object_heap.specs.Store.{Store, with_change}
 use Rattle.member_arguments.specs.Arguments.{int_at, object_at}
 use Rattle.api_iter.specs.Iterators as iterators
@@ -236,7 +236,7 @@ entered_gives store list container (Some object) =
 told_settled : (store : Store) (told : Told) → ToldGives told → EffectGives (Some prim.Boolean) (taking.told_effect store told)
 told_settled store (Says told) h = settled (Some prim.Boolean) store told h
 told_settled store (Enters list at container) h =
-    entered_gives store list container (taking.grown at (entry_references store.objects container) (slice_get store.objects list))
+    entered_gives store list container (taking.grown at (entry_references store.objects container) (open_at store.objects list))
 
 if_told : (test : Bool) (told other : Told) → ToldGives told → ToldGives other → ToldGives (if test then told else other)
 if_told true told other h k = h

@@ -15,8 +15,8 @@ use Rattle.object_heap.specs.declared.answer.Answer.TheVariants as a
 use Rattle.object_heap.specs.Effects.{Effect}
 use Rattle.object_heap.specs.Effects as e
 use Rattle.object_heap.specs.Objects.{renewed_by}
-use Rattle.object_heap.specs.Parts.{items_of, pairs_of}
-use Rattle.object_heap.specs.Store.{Store, changed_at, charge, paid}
+use Rattle.object_heap.specs.Parts.{frozen_of, items_of, pairs_of}
+use Rattle.object_heap.specs.Store.{Store, changed_at, changed_one, charge, paid, with_change}
 use Rattle.container_parts.specs.Containers.{element_at, entry_under, there}
 use Rattle.container_parts.specs.Iterators as iterators
 use Rattle.container_parts.specs.declared.containers.Container.{Container}
@@ -93,6 +93,11 @@ length_changed : (objects : List Object) (id : ℕ) (change : Object → Object)
 length_changed objects id change None = refl
 length_changed objects id change (Some object) = length-set objects id (change object)
 
+length_with : (objects : List Object) (id : ℕ) (change : Object → Object) → length (with_change objects id change) ≡ length objects
+length_with objects id change =
+    elim (frozen_of objects id) as (λ b. length (if b then objects else changed_one objects id change) ≡ length objects)
+    [ true ↦ refl | false ↦ length_changed objects id change (slice_get objects id) ]
+
 after_makes : (old store : Store) (objects : List Object) (next : Store → Effect) → ((room : ℕ) → MakesNothing old (next (record { objects = objects; room = room })) → ⊥)
     → MakesNothing old (e.after_paying (paid store objects 0) next) → ⊥
 unfolding paid
@@ -104,7 +109,9 @@ entry_makes : (old : Store) (id : ℕ) (it : Cursor) (map : ℕ) (key : Value) �
 entry_makes old id it map key =
     let all = old.objects ++ o.Entry map key ∷ [] in
     after_makes old old all (λ paid. e.Gives (v.Ref (length old.objects)) (iterators.with_iterator paid id (iterators.moved it)))
-    (λ room h. absurd (omega (arith, h.1, length_changed all id (renewed_by (iterators.moved it)) (slice_get all id), length-append old.objects (o.Entry map key ∷ []))))
+    (λ room h.
+    let same : length (iterators.with_iterator (record { objects = all; room = room }) id (iterators.moved it)).objects ≡ length all = length_with all id (renewed_by (iterators.moved it)) in
+    absurd (omega (arith, h.1, same, length-append old.objects (o.Entry map key ∷ []))))
 
 spared : (old : Store) (effect : Effect) (answer : Answer) → (MakesNothing old effect → ⊥) → Spares old effect answer
 spared old effect (a.Value value) h = tt

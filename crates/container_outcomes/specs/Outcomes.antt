@@ -1,5 +1,5 @@
 -- What members of containers come to, before it is paid, and what that does to the store.
-use Rattle.std.specs.Prelude.{◌≡◌, ℕ, ℤ, ◌+◌, nat_lt, Bool, true, false, not, ◌||◌, Some, None, List, [], ◌∷◌, ◌++◌, length, codes, is_some, slice_get, if◌then◌else◌}
+use Rattle.std.specs.Prelude.{◌≡◌, ℕ, ℤ, ◌+◌, nat_lt, Bool, true, false, not, ◌||◌, Option, Some, None, List, [], ◌∷◌, ◌++◌, length, codes, is_some, slice_get, if◌then◌else◌}
 use Rattle.std.specs.Fmt.{decimal, signed_decimal}
 use Rattle.pl_units.specs.Utf16.{units}
 use Rattle.pl_types.specs.declared.classes.TheConstants.{ARRAY_INDEX_OUT_OF_BOUNDS_EXCEPTION, CLASS_CAST_EXCEPTION, CONCURRENT_MODIFICATION_EXCEPTION, ILLEGAL_ARGUMENT_EXCEPTION, ILLEGAL_STATE_EXCEPTION, INDEX_OUT_OF_BOUNDS_EXCEPTION, NO_SUCH_ELEMENT_EXCEPTION, NULL_POINTER_EXCEPTION, UNSUPPORTED_OPERATION_EXCEPTION}
@@ -12,7 +12,7 @@ use Rattle.object_heap.specs.declared.answer.Answer.{Answer}
 use Rattle.object_heap.specs.declared.answer.Answer.TheVariants as a
 use Rattle.object_heap.specs.Effects.{Effect, Gives, after_paying, gives_paid, gives_text, throws}
 use Rattle.object_heap.specs.Objects.{renewed_by, with_all_inserted, with_all_put, with_inserted, with_item, with_key_cut, with_pair_cut, with_put, with_removed}
-use Rattle.object_heap.specs.Parts.{items_of, list_items_of, pairs_of, size_of}
+use Rattle.object_heap.specs.Parts.{items_of, open_items_of, open_list_items_of, open_pairs_of, pairs_of, size_of}
 use Rattle.object_heap.specs.Store.{Store, paid, with_change}
 use Rattle.value_walks.specs.Equality.{value_now, value_or}
 use Rattle.container_outcomes.specs.declared.outcome.Raised.{Raised}
@@ -47,12 +47,19 @@ changed_freely store id change = record { objects = with_change store.objects id
 abbrev pub item_now : List Object → ℕ → ℕ → Value
 item_now objects id at = value_or (slice_get (items_of objects id) at) v.Null
 
-abbrev pub list_item_now : List Object → ℕ → ℕ → Value
-list_item_now objects id at = value_or (slice_get (list_items_of objects id) at) v.Null
-
 -- whether a map or a set has a key
 abbrev pub has_key : List Object → ℕ → Value → Bool
 has_key objects id key = is_some (value_of (pairs_of objects id) key)
+
+-- what is written over or taken out, or null: of what is frozen nothing is
+abbrev pub item_out : List Object → ℕ → ℕ → Value
+item_out objects id at = value_or (slice_get (open_items_of objects id) at) v.Null
+
+abbrev pub list_item_out : List Object → ℕ → ℕ → Value
+list_item_out objects id at = value_or (slice_get (open_list_items_of objects id) at) v.Null
+
+abbrev pub key_out : List Object → ℕ → Value → Option Value
+key_out objects id key = value_of (open_pairs_of objects id) key
 
 -- A list, a map or a set takes the place of another of its kind and class; no other object does
 abbrev pub is_collection : Object → Bool
@@ -80,17 +87,17 @@ effect store (outcome.New object) = gives_new store object
 effect store (outcome.Makes before object) = gives_made store before object
 effect store (outcome.Inserts id at item value) = gives_paid store (with_change store.objects id (with_inserted at item)) value
 effect store (outcome.Extends id at items value) = gives_paid store (with_change store.objects id (with_all_inserted at items)) value
-effect store (outcome.Sets id at item) = Gives (item_now store.objects id at) (changed_freely store id (with_item at item))
+effect store (outcome.Sets id at item) = Gives (item_out store.objects id at) (changed_freely store id (with_item at item))
 effect store (outcome.SetsTwo id at item other_at other) = Gives v.Null (changed_freely (changed_freely store id (with_item at item)) id (with_item other_at other))
-effect store (outcome.Cuts id at) = Gives (list_item_now store.objects id at) (changed_freely store id (with_removed at))
+effect store (outcome.Cuts id at) = Gives (list_item_out store.objects id at) (changed_freely store id (with_removed at))
 effect store (outcome.Drops id at) = Gives (v.Bool true) (changed_freely store id (with_removed at))
 effect store (outcome.Puts id key value) = gives_paid store (with_change store.objects id (with_put key value)) (value_now store.objects id key)
 effect store (outcome.Adds id key) = gives_paid store (with_change store.objects id (with_put key v.Null)) (v.Bool (not (has_key store.objects id key)))
 effect store (outcome.PutsAll id pairs) = gives_paid store (with_change store.objects id (with_all_put pairs)) v.Null
 effect store (outcome.AddsAll id keys) = gives_grown store id keys
-effect store (outcome.CutsKey id key) = Gives (value_now store.objects id key) (changed_freely store id (with_key_cut key))
-effect store (outcome.DropsKey id key) = Gives (v.Bool (has_key store.objects id key)) (changed_freely store id (with_key_cut key))
-effect store (outcome.DropsEntry id key) = Gives (v.Bool (has_key store.objects id key)) (changed_freely store id (with_key_cut key))
+effect store (outcome.CutsKey id key) = Gives (value_or (key_out store.objects id key) v.Null) (changed_freely store id (with_key_cut key))
+effect store (outcome.DropsKey id key) = Gives (v.Bool (is_some (key_out store.objects id key))) (changed_freely store id (with_key_cut key))
+effect store (outcome.DropsEntry id key) = Gives (v.Bool (is_some (key_out store.objects id key))) (changed_freely store id (with_key_cut key))
 effect store (outcome.CutsPair id at) = Gives (v.Bool true) (changed_freely store id (with_pair_cut at))
 effect store (outcome.Empties id object) = gives_renewed store id object v.Null
 effect store (outcome.Becomes id object value) = gives_renewed store id object value

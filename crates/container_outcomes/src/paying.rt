@@ -1,11 +1,11 @@
 //! How what members come to is paid, and what it changes.
-ghost use Rattle.std.specs.Prelude.{◌≡◌, ◌+◌, ◌++◌, IfSome, length, not, true};
+ghost use Rattle.std.specs.Prelude.{◌≡◌, ◌+◌, ◌++◌, IfSome, is_some, length, not, true};
 ghost use Rattle.object_heap.specs.Effects.{Answers, Gives, after_paying, gives_paid};
 ghost use Rattle.object_heap.specs.Objects.{with_all_inserted, with_all_put, with_inserted, with_item, with_key_cut, with_pair_cut, with_put, with_removed};
 ghost use Rattle.object_heap.specs.Store.{paid, with_change};
 ghost use Rattle.object_values.specs.declared.value.Value.TheVariants as v;
-ghost use Rattle.value_walks.specs.Equality.{value_now};
-ghost use Rattle.container_outcomes.specs.Outcomes.{changed_freely, gives_grown, gives_made, gives_new, gives_renewed, has_key, is_collection, item_now, list_item_now, IsGiven, MakesNothing};
+ghost use Rattle.value_walks.specs.Equality.{value_now, value_or};
+ghost use Rattle.container_outcomes.specs.Outcomes.{changed_freely, gives_grown, gives_made, gives_new, gives_renewed, has_key, is_collection, item_out, key_out, list_item_out, IsGiven, MakesNothing};
 
 use object_heap::{Answer, Heap, HeapErr};
 use object_values::{Elements, Object, Pairs, Value};
@@ -98,7 +98,7 @@ pub fn extend(heap: &mut Heap, list: u32, at: usize, items: Elements<Value>, val
 
 /// Sets an item, and gives the one that stood there, or null. It takes no memory.
 pub fn set(heap: &mut Heap, list: u32, at: usize, item: Value) -> Answer
-    ensures does { Answers (Gives (item_now heap.old.objects list at) (changed_freely heap.old list (with_item at item))) heap.old heap.new result }
+    ensures does { Answers (Gives (item_out heap.old.objects list at) (changed_freely heap.old list (with_item at item))) heap.old heap.new result }
     ensures memory { IsGiven result }
 {
     match heap.put(list, at, item) {
@@ -135,7 +135,7 @@ pub fn set_two(
 
 /// Takes the item at a place out, and gives it, or null. It takes no memory.
 pub fn cut(heap: &mut Heap, list: u32, at: usize) -> Answer
-    ensures does { Answers (Gives (list_item_now heap.old.objects list at) (changed_freely heap.old list (with_removed at))) heap.old heap.new result }
+    ensures does { Answers (Gives (list_item_out heap.old.objects list at) (changed_freely heap.old list (with_removed at))) heap.old heap.new result }
     ensures memory { IsGiven result }
 {
     match heap.cut(list, at) {
@@ -208,7 +208,7 @@ pub fn add_all_keys(heap: &mut Heap, set: u32, keys: Pairs) -> Answer
 
 /// Takes a key out, and gives what it had, or null. It takes no memory.
 pub fn cut_key(heap: &mut Heap, map: u32, key: &Value) -> Answer
-    ensures does { Answers (Gives (value_now heap.old.objects map key.now) (changed_freely heap.old map (with_key_cut key.now))) heap.old heap.new result }
+    ensures does { Answers (Gives (value_or (key_out heap.old.objects map key.now) v.Null) (changed_freely heap.old map (with_key_cut key.now))) heap.old heap.new result }
     ensures memory { IsGiven result }
 {
     match heap.map_cut(map, key) {
@@ -219,7 +219,7 @@ pub fn cut_key(heap: &mut Heap, map: u32, key: &Value) -> Answer
 
 /// Takes a key out, and gives whether it was there. It takes no memory.
 pub fn drop_key(heap: &mut Heap, map: u32, key: &Value) -> Answer
-    ensures does { Answers (Gives (v.Bool (has_key heap.old.objects map key.now)) (changed_freely heap.old map (with_key_cut key.now))) heap.old heap.new result }
+    ensures does { Answers (Gives (v.Bool (is_some (key_out heap.old.objects map key.now))) (changed_freely heap.old map (with_key_cut key.now))) heap.old heap.new result }
     ensures memory { IsGiven result }
 {
     match heap.map_cut(map, key) {

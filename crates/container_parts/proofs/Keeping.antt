@@ -10,8 +10,9 @@ use Rattle.object_values.specs.declared.value.Value.TheVariants as v
 use Rattle.object_heap.specs.Effects as effects
 use Rattle.object_heap.specs.Fits.{Rules, Fits, ValueFits, EffectFits, can_iterate, kinds, passes}
 use Rattle.object_heap.specs.Objects.{Kind, AList, kind_of, changed, renewed_by, with_pair_cut, with_removed}
-use Rattle.object_heap.specs.Store.{Store, changed_at, with_change}
+use Rattle.object_heap.specs.Store.{Store, changed_at, changed_one, with_change}
 use Rattle.object_heap.proofs.Fitting.{added_fits, cut_fits, map_cut_at_fits, renew_fits}
+use Rattle.object_heap.proofs.Fronting.{whether}
 use Rattle.object_heap.proofs.Growth.{cons_changed}
 use Rattle.object_heap.proofs.Keeping.{after_fits, throws_fits}
 use Rattle.container_parts.specs.Containers.{changes_now, container_of, count_of, lets_cut}
@@ -55,7 +56,8 @@ length_changed objects id change None = refl
 length_changed objects id change (Some object) = length-set objects id (change object)
 
 still_fits : (objects : List Object) (id : ℕ) (change : Object → Object) (value : Value) → ValueFits (length objects) value → ValueFits (length (with_change objects id change)) value
-still_fits objects id change value h = subst (λ (n : ℕ). ValueFits n value) (sym (length_changed objects id change (slice_get objects id))) h
+still_fits objects id change value h =
+    whether objects id change (λ (after : List Object). ValueFits (length after) value) h (subst (λ (n : ℕ). ValueFits n value) (sym (length_changed objects id change (slice_get objects id))) h)
 
 -- what may be iterated stays so behind a further object, and where the kinds are the same
 iterates_more : (objects : List Object) (object : Object) (id : ℕ) → passes can_iterate (slice_get (kinds objects) id) ≡ true → passes can_iterate (slice_get (kinds (objects ++ object ∷ [])) id) ≡ true
@@ -63,11 +65,14 @@ iterates_more [] object id h = cc
 iterates_more (x ∷ objects) object zero h = h
 iterates_more (x ∷ objects) object (suc id) h = iterates_more objects object id h
 
+one_same : (objects : List Object) (id : ℕ) (change : Object → Object) → ((object : Object) → kind_of (change object) ≡ kind_of object) → kinds (changed_one objects id change) ≡ kinds objects
+one_same [] id change h = refl
+one_same (x ∷ objects) zero change h = ap (λ (k : Kind). k ∷ kinds objects) (h x)
+one_same (x ∷ objects) (suc id) change h =
+    ap kinds (cons_changed x objects id change (slice_get objects id)) ∙ ap (λ (ks : List Kind). kind_of x ∷ ks) (one_same objects id change h)
+
 kinds_same : (objects : List Object) (id : ℕ) (change : Object → Object) → ((object : Object) → kind_of (change object) ≡ kind_of object) → kinds (with_change objects id change) ≡ kinds objects
-kinds_same [] id change h = refl
-kinds_same (x ∷ objects) zero change h = ap (λ (k : Kind). k ∷ kinds objects) (h x)
-kinds_same (x ∷ objects) (suc id) change h =
-    ap kinds (cons_changed x objects id change (slice_get objects id)) ∙ ap (λ (ks : List Kind). kind_of x ∷ ks) (kinds_same objects id change h)
+kinds_same objects id change h = whether objects id change (λ (after : List Object). kinds after ≡ kinds objects) refl (one_same objects id change h)
 
 kind_removed : (at : ℕ) (object : Object) → kind_of (with_removed at object) ≡ kind_of object
 kind_removed at (o.List class items guard changes) =

@@ -6,6 +6,7 @@ use Rattle.object_heap.specs.Objects.{renewal_growth, renewed_by, weight_of}
 use Rattle.object_heap.specs.Parts.{asked}
 use Rattle.object_heap.specs.Paying.{PaysSurely}
 use Rattle.object_heap.specs.Store.{Store, paid, weight, with_change}
+use Rattle.object_heap.proofs.Fronting.{whether}
 use Rattle.object_heap.proofs.Growth.{renewal_grows}
 use Rattle.object_heap.proofs.Paying.{paid_if}
 
@@ -28,5 +29,7 @@ unpaid old objects e =
 pub placed : (old new : Store) (id over cursor seen : ℕ) (last : Option ℕ) (is : Bool) → PaysSurely old new (with_change old.objects id (renewed_by (o.Iter over cursor seen last))) 0 is
     → new ≡ record { objects = with_change old.objects id (renewed_by (o.Iter over cursor seen last)); room = old.room }
 placed old new id over cursor seen last is h =
-    let free : weight (with_change old.objects id (renewed_by (o.Iter over cursor seen last))) - weight old.objects ≡ 0 = renewal_grows old.objects id (o.Iter over cursor seen last) ∙ iterator_weighs over cursor seen last (slice_get old.objects id) in
+    let free : weight (with_change old.objects id (renewed_by (o.Iter over cursor seen last))) - weight old.objects ≡ 0 =
+    whether old.objects id (renewed_by (o.Iter over cursor seen last)) (λ (after : List Object). weight after - weight old.objects ≡ 0) (omega arith)
+    (renewal_grows old.objects id (o.Iter over cursor seen last) ∙ iterator_weighs over cursor seen last (slice_get old.objects id)) in
     surely old new (with_change old.objects id (renewed_by (o.Iter over cursor seen last))) is (unpaid old (with_change old.objects id (renewed_by (o.Iter over cursor seen last))) free) h

@@ -111,7 +111,7 @@ fn classes_have_constructors(rt: HostRuntime) -> Result<(), Fail> {
 
 /// What a function value calls.
 #[derive(Clone, Copy)]
-enum Calls {
+pub enum Calls {
     /// A lambda that captured so many values and has so many parameters.
     Lambda(u32, u32),
     Member(u32, &'static str),
@@ -169,7 +169,8 @@ fn made(alloc: Global, ty: Ty) -> Result<Target, AllocError> {
     Ok(Target::New(Boxed::new(alloc, ty)?))
 }
 
-fn target(alloc: Global, calls: Calls) -> Result<Target, AllocError> {
+/// The target of a function value.
+pub fn target(alloc: Global, calls: Calls) -> Result<Target, AllocError> {
     match calls {
         Calls::Lambda(_, _) => Ok(Target::Lambda(Owner::Script, 0)),
         Calls::Member(class, name) => {
@@ -187,7 +188,8 @@ fn target(alloc: Global, calls: Calls) -> Result<Target, AllocError> {
     }
 }
 
-fn counts(calls: Calls) -> (u32, u32) {
+/// How many values it captured, and how many parameters are told of it.
+pub fn counts(calls: Calls) -> (u32, u32) {
     match calls {
         Calls::Lambda(captured, params) => (captured, params),
         _ => (0, 7),

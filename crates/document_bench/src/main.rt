@@ -7,7 +7,7 @@ use json_bridge::{bind, give};
 use json_reading::{Scratch, read_json};
 use object_heap::Heap;
 use object_values::Seed;
-use search_ctx::{Fields, SearchKind, bind_line};
+use search_ctx::{Fields, Params, SearchKind, bind_line};
 use serde_json::Value as Json;
 use std::alloc::{AllocError, Global};
 use std::rt::Clock;
@@ -26,7 +26,7 @@ const MAPPING: &str = "{\"n\":\"long\",\"tag\":\"keyword\"}";
 struct Job {
     alloc: Global,
     fields: Fields,
-    params: Json,
+    params: Params,
 }
 
 impl Drop for Job {
@@ -46,7 +46,7 @@ fn job_of(alloc: Global) -> Option<Job> {
     Some(Job {
         alloc,
         fields: Fields::new(alloc, &mapping).ok()?,
-        params: Json::Null,
+        params: Params::new(alloc, Json::Null, Seed::of(b"job")).ok()?,
     })
 }
 

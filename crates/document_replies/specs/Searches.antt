@@ -37,7 +37,7 @@ search_context documents keys = record { start = start_of documents; reply = rep
 
 -- the documents of a context of the code
 abbrev pub documents_of : SearchContext → Documents
-documents_of context = record { kind = context.kind; fields = context.fields; params = view context.params; room = context.room }
+documents_of context = record { kind = context.kind; fields = context.fields; params = view context.params.json; room = context.room }
 
 -- the arguments of a kind: the params and the document, and the score
 abbrev pub HasArguments : SearchKind → List Value → Type 0

@@ -8,8 +8,7 @@ use json_bridge::BindErr;
 use json_reading::Scratch;
 use json_replies::{Line, ShownKeys, shown_reply_line};
 use object_heap::Outcome;
-use search_ctx::{Fields, SearchKind, Seed, bind_line};
-use serde_json::Value as Json;
+use search_ctx::{Fields, Params, SearchKind, Seed, bind_line};
 use std::alloc::{AllocError, Global};
 
 /// A context over documents, with what is made once for a job.
@@ -17,7 +16,7 @@ pub struct SearchContext {
     pub alloc: Global,
     pub kind: SearchKind,
     pub fields: Fields,
-    pub params: Json,
+    pub params: Params,
     /// The room of each run.
     pub room: u64,
     /// The job's seed. The heap of each run is made from it and from the run's document.

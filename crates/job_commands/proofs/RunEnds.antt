@@ -19,11 +19,12 @@ use Rattle.document_replies.specs.Passing.{Passes, PassesBy}
 use Rattle.document_replies.specs.LineRunReplies.{Front, Talk, stateless}
 use Rattle.document_replies.proofs.Pass.{pass_nothing}
 use Rattle.document_replies.specs.declared.job.DocumentJob.{DocumentJob}
-use Rattle.document_replies.specs.declared.search.SearchContext.{SearchContext}
+use Rattle.document_replies.specs.declared.lines.JobLines.{JobLines}
 use Rattle.document_replies.specs.Jobs.{by_start}
+use Rattle.document_replies.specs.LinesSeen.{lines_seen}
 use Rattle.document_replies.specs.Replies.{Context, IsReply}
 use Rattle.job_commands.specs.Contexts.{context_in, keys_in}
-use Rattle.job_commands.specs.Documents.{GivesReplies, IsDocumentJob, EndsBy, EndsPrepared, Lists, context_seen, front_for, limited, ran_by}
+use Rattle.job_commands.specs.Documents.{GivesReplies, IsDocumentJob, EndsBy, EndsPrepared, Lists, front_for, limited, ran_by}
 use Rattle.job_commands.specs.Listing.{listings_of}
 use Rattle.job_commands.specs.Preparing.{EndsAsItsProgram, codes_of}
 use Rattle.job_commands.specs.Running.{no_documents}
@@ -32,16 +33,16 @@ use Rattle.job_commands.specs.declared.script.LimitedScript.{LimitedScript}
 use Rattle.job_commands.proofs.Statuses.{quiet_lists}
 
 -- what replies to lines alone by a script in a context
-abbrev RepliesBy : ShownKeys → SearchContext → LimitedScript → Talk
-RepliesBy keys context script = stateless (IsReply script.script.executable.allow (context_seen keys context) (by_start (EndsAsItsProgram script)))
+abbrev RepliesBy : ShownKeys → JobLines → LimitedScript → Talk
+RepliesBy keys lines script = stateless (IsReply script.script.executable.allow (lines_seen keys lines) (by_start (EndsAsItsProgram script)))
 
 -- the replies are those of the job
-pub passes_so : (context : SearchContext) (job : PreparedJob) (d : DocumentJob SearchContext LimitedScript) → IsDocumentJob context job d → (front : Front) (limit : ℕ) (ran : Ran)
-    (left left' old new : Option (List ℕ)) → Passes (stateless (IsReply d.script.script.executable.allow (context_seen d.keys d.context) (by_start (EndsAsItsProgram d.script)))) front limit ran left left' old new
-    → Passes (stateless (GivesReplies (context_seen (keys_in (job_view job.found.job)) context) job)) front limit ran left left' old new
-passes_so context job d is front limit ran left left' old new h =
-    subst (λ (k : ShownKeys). Passes (RepliesBy k context (limited job)) front limit ran left left' old new) is.1
-    (subst (λ (c : SearchContext). Passes (RepliesBy d.keys c (limited job)) front limit ran left left' old new) is.0
+pub passes_so : (lines : JobLines) (job : PreparedJob) (d : DocumentJob JobLines LimitedScript) → IsDocumentJob lines job d → (front : Front) (limit : ℕ) (ran : Ran)
+    (left left' old new : Option (List ℕ)) → Passes (stateless (IsReply d.script.script.executable.allow (lines_seen d.keys d.context) (by_start (EndsAsItsProgram d.script)))) front limit ran left left' old new
+    → Passes (stateless (GivesReplies (lines_seen (keys_in (job_view job.found.job)) lines) job)) front limit ran left left' old new
+passes_so lines job d is front limit ran left left' old new h =
+    subst (λ (k : ShownKeys). Passes (RepliesBy k lines (limited job)) front limit ran left left' old new) is.1
+    (subst (λ (l : JobLines). Passes (RepliesBy d.keys l (limited job)) front limit ran left left' old new) is.0
     (subst (λ (script : LimitedScript). Passes (RepliesBy d.keys d.context script) front limit ran left left' old new) is.2 h))
 
 -- want of memory before the first line

@@ -6,6 +6,8 @@ use Rattle.serde_json.specs.Data.{Data}
 use Rattle.serde_json.specs.Find.{as_object}
 use Rattle.serde_json.specs.Read.{read}
 use Rattle.std.proofs.lemmas.Option.{none-some, same_Some}
+use Rattle.pl_types.specs.declared.classes.TheConstants.{MAP}
+use Rattle.pl_types.specs.declared.ty.Ty.TheVariants as t
 use Rattle.object_values.specs.declared.object.Object.{Object}
 use Rattle.object_values.specs.declared.value.Value.{Value}
 use Rattle.object_heap.specs.Fits.{Rules, AllFit, have_types, kinds}
@@ -31,12 +33,16 @@ use Rattle.search_ctx.specs.Lines.{bound_document, bound_line}
 use Rattle.search_ctx.specs.Typed.{LinesTyped, ParamsAreObjects, StartTyped, argument_types}
 use Rattle.command_parts.specs.Files.{file_told}
 use Rattle.command_parts.specs.Told.{Told}
+use Rattle.document_replies.specs.ChangeLaws.{ChangesFit, ChangesTyped, StartHasMaps}
+use Rattle.document_replies.specs.Changes.{change_context, change_start}
 use Rattle.document_replies.specs.Replies.{Context}
 use Rattle.document_replies.specs.Searches.{Documents, search_context, start_of}
 use Rattle.document_replies.specs.Starts.{Fault, Start, syntax}
+use Rattle.document_replies.specs.write_ctx_declared.keys.WriteKind.{WriteKind}
+use Rattle.document_replies.specs.write_ctx_declared.keys.WriteKind.TheVariants as w
 use Rattle.job_loading.specs.Allow.{AllowList}
 use Rattle.job_loading.specs.Loading.{JobUnder, job_in_bytes, job_in_file, job_told, job_under, list_named, under, with_list}
-use Rattle.job_commands.specs.Contexts.{documents_in, keys_in, row_of, search_types, types_of}
+use Rattle.job_commands.specs.Contexts.{change_types, changes_in, documents_in, keys_in, row_of, search_types, types_of}
 use Rattle.job_commands.specs.Running.{limits_in, world_in}
 use Rattle.job_commands.specs.Scripts.{JobProgram, Prepared, PreparesJob, PreparesRead, RefusedScript, prepared}
 use Rattle.job_commands.specs.Starts.{BindsLine, LinesRunTyped, LinesStartWell, StartsWell}
@@ -98,9 +104,13 @@ has_params c.Eval job context is = absurd (none-some context is)
 has_params c.Filter job context is = refl
 has_params c.Score job context is = refl
 has_params c.Field job context is = refl
-has_params c.Update job context is = absurd (none-some context is)
-has_params c.Ingest job context is = absurd (none-some context is)
+has_params c.Update job context is = refl
+has_params c.Ingest job context is = refl
 has_params c.Metric job context is = absurd (none-some context is)
+has_params c.Updates job context is = absurd (none-some context is)
+has_params c.Pipe job context is = absurd (none-some context is)
+has_params c.Serve job context is = absurd (none-some context is)
+has_params c.FunctionScore job context is = absurd (none-some context is)
 
 -- ---- starts
 
@@ -124,6 +134,13 @@ module _ (Holds : Result Start Fault → Type 0) (wrong : (fault : Fault) → Ho
       let same : search_context (documents_in kind job) (keys_in job) ≡ context = same_Some (search_context (documents_in kind job) (keys_in job)) context is in
       subst (λ (x : Context). Holds (x.start line)) same (start_holds (documents_in kind job) h line)
 
+-- what holds of what each line is bound to holds in a context of documents that a script changes
+change_holds : (Holds : Result Start Fault → Type 0) (kind : WriteKind) (job : JobData) (context : Context) → Some (change_context (changes_in kind job) (keys_in job)) ≡ Some context
+    → ((line : List ℕ) → Holds (change_start (changes_in kind job) line)) → (line : List ℕ) → Holds (context.start line)
+change_holds Holds kind job context is h line =
+    let same : change_context (changes_in kind job) (keys_in job) ≡ context = same_Some (change_context (changes_in kind job) (keys_in job)) context is in
+    subst (λ (x : Context). Holds (x.start line)) same (h line)
+
 -- the arguments of a start are of the types of variables
 abbrev StartHas : ContextTypes → Result Start Fault → Type 0
 StartHas types (Ok start) = HasVariables start.store.objects types start.args
@@ -140,17 +157,25 @@ has_of : (rules : Rules) (kind : SearchKind) (bound : Result Start Fault) → St
 has_of rules kind (Ok start) fits typed = of_kind start.store.objects kind start.args fits.1 typed
 has_of rules kind (Err fault) fits typed = tt
 
-module _ (fit : LinesFit) where
+has_maps : (rules : Rules) (bound : Result Start Fault) → StartFits rules bound → StartHasMaps bound → StartHas change_types bound
+has_maps rules (Ok start) fits maps = all_typed start.store.objects (t.Class MAP ∷ t.Class MAP ∷ []) start.args fits.1 maps
+has_maps rules (Err fault) fits maps = tt
+
+module _ (fit : LinesFit) (changes_fit : ChangesFit) where
   row_fits : (rules : Rules) (of : JobContext) (job : JobData) (context : Context) → (row_of of).lines job ≡ Some context → (line : List ℕ) → StartFits rules (context.start line)
   row_fits rules c.Eval job context is line = absurd (none-some context is)
   row_fits rules c.Filter job context is line = search_holds (StartFits rules) (λ fault. tt) k.Filter job context is (fit rules k.Filter job.mapping job.params job.limits.room) line
   row_fits rules c.Score job context is line = search_holds (StartFits rules) (λ fault. tt) k.Score job context is (fit rules k.Score job.mapping job.params job.limits.room) line
   row_fits rules c.Field job context is line = search_holds (StartFits rules) (λ fault. tt) k.Field job context is (fit rules k.Field job.mapping job.params job.limits.room) line
-  row_fits rules c.Update job context is line = absurd (none-some context is)
-  row_fits rules c.Ingest job context is line = absurd (none-some context is)
+  row_fits rules c.Update job context is line = change_holds (StartFits rules) w.Update job context is (changes_fit rules (changes_in w.Update job)) line
+  row_fits rules c.Ingest job context is line = change_holds (StartFits rules) w.Ingest job context is (changes_fit rules (changes_in w.Ingest job)) line
   row_fits rules c.Metric job context is line = absurd (none-some context is)
+  row_fits rules c.Updates job context is line = absurd (none-some context is)
+  row_fits rules c.Pipe job context is line = absurd (none-some context is)
+  row_fits rules c.Serve job context is line = absurd (none-some context is)
+  row_fits rules c.FunctionScore job context is line = absurd (none-some context is)
 
-  module _ (typed : LinesTyped) (rules : Rules) where
+  module _ (typed : LinesTyped) (changes_typed : ChangesTyped) (rules : Rules) where
     search_has : (kind : SearchKind) (job : JobData) (context : Context) → Some (search_context (documents_in kind job) (keys_in job)) ≡ Some context → is_some (as_object job.params) ≡ true
         → (line : List ℕ) → StartHas (search_types kind) (context.start line)
     search_has kind job context is object =
@@ -158,26 +183,36 @@ module _ (fit : LinesFit) where
         (λ d. has_of rules kind (bound_document kind job.mapping job.params job.limits.room d) (fit rules kind job.mapping job.params job.limits.room d)
         (typed kind job.mapping job.params job.limits.room d object))
 
+    change_has : (kind : WriteKind) (job : JobData) (context : Context) → Some (change_context (changes_in kind job) (keys_in job)) ≡ Some context → is_some (as_object job.params) ≡ true
+        → (line : List ℕ) → StartHas change_types (context.start line)
+    change_has kind job context is object =
+        change_holds (StartHas change_types) kind job context is
+        (λ line. has_maps rules (change_start (changes_in kind job) line) (changes_fit rules (changes_in kind job) line) (changes_typed (changes_in kind job) line object))
+
     row_has : (of : JobContext) (name : List ℕ) (job : JobData) (context : Context) → (row_of of).lines job ≡ Some context → is_some (as_object job.params) ≡ true
         → (line : List ℕ) → StartHas (types_of of name) (context.start line)
     row_has c.Eval name job context is object line = absurd (none-some context is)
     row_has c.Filter name job context is object line = search_has k.Filter job context is object line
     row_has c.Score name job context is object line = search_has k.Score job context is object line
     row_has c.Field name job context is object line = search_has k.Field job context is object line
-    row_has c.Update name job context is object line = absurd (none-some context is)
-    row_has c.Ingest name job context is object line = absurd (none-some context is)
+    row_has c.Update name job context is object line = change_has w.Update job context is object line
+    row_has c.Ingest name job context is object line = change_has w.Ingest job context is object line
     row_has c.Metric name job context is object line = absurd (none-some context is)
+    row_has c.Updates name job context is object line = absurd (none-some context is)
+    row_has c.Pipe name job context is object line = absurd (none-some context is)
+    row_has c.Serve name job context is object line = absurd (none-some context is)
+    row_has c.FunctionScore name job context is object line = absurd (none-some context is)
 
-module _ (fit : LinesFit) (typed : LinesTyped) (params : ParamsAreObjects) where
+module _ (fit : LinesFit) (changes_fit : ChangesFit) (typed : LinesTyped) (changes_typed : ChangesTyped) (params : ParamsAreObjects) where
   pub lines_start : LinesStartWell
   lines_start p line start b =
       let job = read_so b.command b.content b.name p b.prepares in
       let object = params b.command job.0 p.under.job job.1 (has_params p.under.job.context p.under.job b.context b.over) in
-      let fits : (rules : Rules) → StartFits rules (Ok start) = λ rules. subst (StartFits rules) b.binds (row_fits fit rules p.under.job.context p.under.job b.context b.over line) in
+      let fits : (rules : Rules) → StartFits rules (Ok start) = λ rules. subst (StartFits rules) b.binds (row_fits fit changes_fit rules p.under.job.context p.under.job b.context b.over line) in
       let name = p.programs.first.key in
       let rules = rules_of (beside p.programs.first.program empty_program) in
       let has : StartHas (types_of p.under.job.context name) (Ok start) =
-      subst (StartHas (types_of p.under.job.context name)) b.binds (row_has fit typed rules p.under.job.context name p.under.job b.context b.over object line) in
+      subst (StartHas (types_of p.under.job.context name)) b.binds (row_has fit changes_fit typed changes_typed rules p.under.job.context name p.under.job b.context b.over object line) in
       record {
         program = λ program. (fits (rules_of (beside program empty_program))).0;
         codes = λ codes. (fits (rules_of_codes codes)).0;

@@ -12,6 +12,9 @@ use Rattle.job_file.specs.Jobs.{JobData}
 use Rattle.search_ctx.specs.declared.line.SearchKind.{SearchKind}
 use Rattle.search_ctx.specs.declared.line.SearchKind.TheVariants as k
 use Rattle.document_replies.specs.json_replies_declared.showing.ShownKeys.{ShownKeys}
+use Rattle.document_replies.specs.write_ctx_declared.keys.WriteKind.{WriteKind}
+use Rattle.document_replies.specs.write_ctx_declared.keys.WriteKind.TheVariants as w
+use Rattle.document_replies.specs.Changes.{Changes, change_context}
 use Rattle.document_replies.specs.Replies.{Context}
 use Rattle.document_replies.specs.Searches.{Documents, search_context}
 
@@ -29,6 +32,10 @@ search_types k.Filter = record { variables = params_and_doc []; result = t.Prim 
 search_types k.Score = record { variables = params_and_doc (variable (codes "_score") (t.Prim prim.Long) ∷ []); result = t.Prim prim.Long }
 search_types k.Field = record { variables = params_and_doc []; result = t.Def }
 
+-- the params and the document that is changed; a script that changes it gives nothing
+abbrev pub change_types : ContextTypes
+change_types = record { variables = variable (codes "params") (t.Class MAP) ∷ variable (codes "ctx") (t.Class MAP) ∷ []; result = t.Void }
+
 -- a script of its own sees no variables and gives any value
 abbrev pub own_types : ContextTypes
 own_types = record { variables = []; result = t.Def }
@@ -37,6 +44,9 @@ own_types = record { variables = []; result = t.Def }
 
 abbrev pub documents_in : SearchKind → JobData → Documents
 documents_in kind job = record { kind = kind; fields = job.mapping; params = job.params; room = job.limits.room }
+
+abbrev pub changes_in : WriteKind → JobData → Changes
+changes_in kind job = record { kind = kind; params = job.params; room = job.limits.room }
 
 abbrev pub keys_in : JobData → ShownKeys
 keys_in job = record { members = job.members; steps = job.steps }
@@ -57,15 +67,22 @@ own_row = record { types = λ key. own_types; lines = λ job. None; by_key = fal
 abbrev pub search_row : SearchKind → ContextRow
 search_row kind = record { types = λ key. search_types kind; lines = λ job. Some (search_context (documents_in kind job) (keys_in job)); by_key = false }
 
+abbrev pub change_row : WriteKind → ContextRow
+change_row kind = record { types = λ key. change_types; lines = λ job. Some (change_context (changes_in kind job) (keys_in job)); by_key = false }
+
 abbrev pub row_of : JobContext → ContextRow
 row_of c.Eval = own_row
 row_of c.Filter = search_row k.Filter
 row_of c.Score = search_row k.Score
 row_of c.Field = search_row k.Field
+row_of c.Update = change_row w.Update
+row_of c.Ingest = change_row w.Ingest
 -- these are not built, and no job of theirs is read
-row_of c.Update = own_row
-row_of c.Ingest = own_row
 row_of c.Metric = record { types = λ key. own_types; lines = λ job. None; by_key = true }
+row_of c.Updates = own_row
+row_of c.Pipe = own_row
+row_of c.Serve = own_row
+row_of c.FunctionScore = own_row
 
 -- what the script of a context under a key sees and gives
 abbrev pub types_of : JobContext → List ℕ → ContextTypes

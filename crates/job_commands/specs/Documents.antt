@@ -7,25 +7,18 @@ use Rattle.command_parts.specs.declared.status.Status.{Status}
 use Rattle.command_parts.specs.declared.status.Status.TheVariants as s
 use Rattle.command_parts.specs.Reports.{IsQuiet, texts_of}
 use Rattle.command_parts.specs.Writing.{Writes}
-use Rattle.document_replies.specs.json_replies_declared.showing.ShownKeys.{ShownKeys}
 use Rattle.document_replies.specs.line_run_declared.ran.Ran.{Ran}
 use Rattle.document_replies.specs.Passing.{Passes}
 use Rattle.document_replies.specs.LineRunReplies.{Front, Reply, stateless}
 use Rattle.document_replies.specs.declared.job.DocumentJob.{DocumentJob}
-use Rattle.document_replies.specs.declared.search.SearchContext.{SearchContext}
 use Rattle.document_replies.specs.Jobs.{by_start}
 use Rattle.document_replies.specs.Replies.{Context, IsReply}
-use Rattle.document_replies.specs.Searches.{documents_of, search_context}
 use Rattle.job_commands.specs.Contexts.{context_in, keys_in}
 use Rattle.job_commands.specs.Listing.{listings_of}
 use Rattle.job_commands.specs.Preparing.{EndsAsItsProgram, codes_of}
 use Rattle.job_commands.specs.Running.{front_bytes, no_documents}
 use Rattle.job_commands.specs.declared.preparing.PreparedJob.{PreparedJob}
 use Rattle.job_commands.specs.declared.script.LimitedScript.{LimitedScript}
-
--- a context of the code, with what is shown beside replies
-abbrev pub context_seen : ShownKeys → SearchContext → Context
-context_seen keys context = search_context (documents_of context) keys
 
 -- the first script of a job with its limits
 abbrev pub limited : PreparedJob → LimitedScript
@@ -35,7 +28,7 @@ limited job = record {
 }
 
 -- a job of the code over lines, in a context of the code
-abbrev pub IsDocumentJob : SearchContext → PreparedJob → DocumentJob SearchContext LimitedScript → Type 0
+abbrev pub IsDocumentJob : {C : Type 0} → C → PreparedJob → DocumentJob C LimitedScript → Type 0
 IsDocumentJob context job d = (d.context ≡ context) × (d.keys ≡ keys_in (job_view job.found.job)) × (d.script ≡ limited job)
 
 -- the reply that a job gives to a line in a context

@@ -1,6 +1,8 @@
 //! What a run over a document comes to.
 
 ghost use Rattle.std.specs.Prelude.{◌≡◌, List, IfOk, Ok};
+ghost use Rattle.std.specs.Int.{to_le_bytes, w32};
+ghost use Rattle.object_values.specs.Seeds.{seed_with};
 ghost use Rattle.object_values.specs.declared.value.Value.{Value as ScriptValue};
 ghost use Rattle.document_replies.specs.Starts.{start_view};
 ghost use Rattle.document_replies.specs.Jobs.{by_start, ended_of};
@@ -78,7 +80,9 @@ fn answer_to_bound(
 }
 
 /// From what the heap of the run over the document of a number is made, which changes no answer.
-fn seed_at(seed: Seed, number: u32) -> Seed {
+fn seed_at(seed: Seed, number: u32) -> Seed
+    ensures { result ≡ seed_with seed (to_le_bytes w32 number) }
+{
     seed.with(&number.to_le_bytes())
 }
 

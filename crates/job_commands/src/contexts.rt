@@ -3,17 +3,17 @@
 ghost use Rattle.std.specs.Prelude.{◌≡◌, IfOk, option_map};
 ghost use Rattle.job_file.specs.Answers.{fields_view, job_view};
 ghost use Rattle.search_ctx.specs.Fields.{HasDistinctNames};
+ghost use Rattle.document_replies.specs.LinesSeen.{changes_of, lines_seen};
 ghost use Rattle.document_replies.specs.Searches.{documents_of};
-ghost use Rattle.job_commands.specs.Contexts.{context_in, documents_in, keys_in, own_types, row_of, search_row, search_types, types_of, variable};
-ghost use Rattle.job_commands.specs.Documents.{context_seen};
+ghost use Rattle.job_commands.specs.Contexts.{change_row, change_types, changes_in, context_in, documents_in, keys_in, own_types, row_of, search_row, search_types, types_of, variable};
 
-use document_replies::{SearchContext, ShownKeys};
+use document_replies::{ChangeContext, JobLines, SearchContext, ShownKeys, WriteKind};
 use job_file::{Job, JobContext};
 use job_loading::ReadJob;
 use pl_types::classes::MAP;
 use pl_types::{Primitive, Ty};
 use script_engine::ContextTypes;
-use search_ctx::{Fields, SearchKind, fields_stay};
+use search_ctx::{Fields, Params, SearchKind, fields_stay};
 use std::alloc::{AllocError, Global};
 use typed_tree::{Items, Named, Text};
 
@@ -64,6 +64,19 @@ fn search_types(alloc: Global, kind: SearchKind) -> Result<ContextTypes, AllocEr
     })
 }
 
+/// Those of a context of documents that a script changes.
+fn change_types(alloc: Global) -> Result<ContextTypes, AllocError>
+    ensures { IfOk result (λ types. types ≡ change_types) }
+{
+    let mut variables = Items::new(alloc);
+    variables.push(variable(alloc, "params", Ty::Class(MAP))?)?;
+    variables.push(variable(alloc, "ctx", Ty::Class(MAP))?)?;
+    Ok(ContextTypes {
+        variables,
+        result: Ty::Void,
+    })
+}
+
 /// Those of a script of its own.
 fn own_types(alloc: Global) -> ContextTypes
     ensures { result ≡ own_types }
@@ -86,9 +99,13 @@ pub(crate) fn context_types(
         JobContext::Filter => search_types(alloc, SearchKind::Filter),
         JobContext::Score => search_types(alloc, SearchKind::Score),
         JobContext::Field => search_types(alloc, SearchKind::Field),
-        JobContext::Eval | JobContext::Update | JobContext::Ingest | JobContext::Metric => {
-            Ok(own_types(alloc))
-        }
+        JobContext::Update | JobContext::Ingest => change_types(alloc),
+        JobContext::Eval
+        | JobContext::Metric
+        | JobContext::Updates
+        | JobContext::Pipe
+        | JobContext::Serve
+        | JobContext::FunctionScore => Ok(own_types(alloc)),
     }
 }
 
@@ -103,7 +120,11 @@ pub(crate) fn tells_keys(context: JobContext) -> bool
         | JobContext::Score
         | JobContext::Field
         | JobContext::Update
-        | JobContext::Ingest => false,
+        | JobContext::Ingest
+        | JobContext::Updates
+        | JobContext::Pipe
+        | JobContext::Serve
+        | JobContext::FunctionScore => false,
     }
 }
 
@@ -121,23 +142,52 @@ pub(crate) fn search_context(
         alloc,
         kind,
         fields: Fields::new(alloc, &found.job.mapping)?,
+        params: Params::new(alloc, found.job.params.clone()?, found.seed)?,
+        room: found.job.limits.room,
+        seed: found.seed,
+    })
+}
+
+/// The context of a job whose script changes documents.
+fn change_context(
+    alloc: Global,
+    kind: WriteKind,
+    found: &ReadJob,
+) -> Result<ChangeContext, AllocError>
+    ensures { IfOk result (λ context. changes_of context ≡ changes_in kind (job_view found.now.job)) }
+{
+    Ok(ChangeContext {
+        alloc,
+        kind,
         params: found.job.params.clone()?,
         room: found.job.limits.room,
         seed: found.seed,
     })
 }
 
-/// The same as that of a job with lines.
+/// The lines of a job over documents of a kind.
 fn search_lines(
     alloc: Global,
     kind: SearchKind,
     found: &ReadJob,
-) -> Result<Option<SearchContext>, AllocError>
+) -> Result<Option<JobLines>, AllocError>
     requires distinct { HasDistinctNames (fields_view found.now.job.mapping.fields.items) }
-    ensures { IfOk result (λ lines. option_map (context_seen (keys_in (job_view found.now.job))) lines ≡ (search_row kind).lines (job_view found.now.job)) }
+    ensures { IfOk result (λ lines. option_map (lines_seen (keys_in (job_view found.now.job))) lines ≡ (search_row kind).lines (job_view found.now.job)) }
 {
     let context = search_context(alloc, kind, found)?;
-    Ok(Some(context))
+    Ok(Some(JobLines::Search(context)))
+}
+
+/// The lines of a job whose script changes documents.
+fn change_lines(
+    alloc: Global,
+    kind: WriteKind,
+    found: &ReadJob,
+) -> Result<Option<JobLines>, AllocError>
+    ensures { IfOk result (λ lines. option_map (lines_seen (keys_in (job_view found.now.job))) lines ≡ (change_row kind).lines (job_view found.now.job)) }
+{
+    let context = change_context(alloc, kind, found)?;
+    Ok(Some(JobLines::Change(context)))
 }
 
 /// The lines of a job in a context.
@@ -145,22 +195,29 @@ fn lines_by(
     alloc: Global,
     context: JobContext,
     found: &ReadJob,
-) -> Result<Option<SearchContext>, AllocError>
+) -> Result<Option<JobLines>, AllocError>
     requires distinct { HasDistinctNames (fields_view found.now.job.mapping.fields.items) }
-    ensures { IfOk result (λ lines. option_map (context_seen (keys_in (job_view found.now.job))) lines ≡ (row_of context).lines (job_view found.now.job)) }
+    ensures { IfOk result (λ lines. option_map (lines_seen (keys_in (job_view found.now.job))) lines ≡ (row_of context).lines (job_view found.now.job)) }
 {
     match context {
         JobContext::Filter => search_lines(alloc, SearchKind::Filter, found),
         JobContext::Score => search_lines(alloc, SearchKind::Score, found),
         JobContext::Field => search_lines(alloc, SearchKind::Field, found),
-        JobContext::Eval | JobContext::Update | JobContext::Ingest | JobContext::Metric => Ok(None),
+        JobContext::Update => change_lines(alloc, WriteKind::Update, found),
+        JobContext::Ingest => change_lines(alloc, WriteKind::Ingest, found),
+        JobContext::Eval
+        | JobContext::Metric
+        | JobContext::Updates
+        | JobContext::Pipe
+        | JobContext::Serve
+        | JobContext::FunctionScore => Ok(None),
     }
 }
 
-/// The context of a job, where it has lines.
-pub(crate) fn lines_of(alloc: Global, found: &ReadJob) -> Result<Option<SearchContext>, AllocError>
+/// The lines of a job in its context, where it has lines.
+pub(crate) fn lines_of(alloc: Global, found: &ReadJob) -> Result<Option<JobLines>, AllocError>
     requires distinct { HasDistinctNames (fields_view found.now.job.mapping.fields.items) }
-    ensures { IfOk result (λ lines. option_map (context_seen (keys_in (job_view found.now.job))) lines ≡ context_in (job_view found.now.job)) }
+    ensures { IfOk result (λ lines. option_map (lines_seen (keys_in (job_view found.now.job))) lines ≡ context_in (job_view found.now.job)) }
 {
     lines_by(alloc, found.job.context, found)
 }

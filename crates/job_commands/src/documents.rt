@@ -5,16 +5,16 @@ ghost use Rattle.job_commands.specs.Documents.{IsDocumentJob};
 use crate::contexts::keys_of;
 use crate::preparing::PreparedJob;
 use crate::script::LimitedScript;
-use document_replies::{DocumentJob, SearchContext};
+use document_replies::DocumentJob;
 use script_engine::Limits;
 use std::alloc::Global;
 
 /// What replies to the lines of a job in a context, by its first script.
-pub(crate) fn document_job(
+pub(crate) fn document_job<C>(
     alloc: Global,
-    context: SearchContext,
+    context: C,
     job: PreparedJob,
-) -> DocumentJob<SearchContext, LimitedScript>
+) -> DocumentJob<C, LimitedScript>
     ensures { IsDocumentJob context job result }
 {
     let keys = keys_of(&job.found.job);

@@ -5,11 +5,12 @@ ghost use Rattle.job_file.specs.Answers.{job_view};
 ghost use Rattle.job_loading.specs.Seen.{read_view};
 ghost use Rattle.job_commands.specs.Preparing.{IsReady, PreparesSo};
 ghost use Rattle.job_commands.specs.Scripts.{Prepares};
-ghost use Rattle.job_commands.specs.FixedJob.{fixed_job, fixed_under};
+ghost use Rattle.job_commands.specs.FixedJob.{fixed_job, fixed_script, fixed_under};
+ghost use Rattle.object_values.specs.Seeds.{seed_of};
 
 use crate::preparing::{PreparedJob, prepare_found};
 use command_parts::Stop;
-use job_file::{FieldKind, Job, JobContext, JobLimits, Mapping};
+use job_file::{FieldKind, Job, JobContext, JobLimits, JobParticulars, Mapping};
 use job_loading::{Catalogue, ReadJob};
 use object_values::Seed;
 use serde_json::{Map, Value as Json};
@@ -53,11 +54,14 @@ fn fixed_job(alloc: Global) -> Result<Job, AllocError>
         steps: false,
         members: false,
         prelude: false,
+        particulars: JobParticulars::none(alloc),
     })
 }
 
 /// From what the heaps of its runs are made, beside their documents.
-fn fixed_seed() -> Seed {
+fn fixed_seed() -> Seed
+    ensures { result ≡ seed_of fixed_script }
+{
     Seed::of(SCRIPT.as_bytes())
 }
 

@@ -6,9 +6,10 @@ ghost use Rattle.job_file.specs.Answers.{fields_view, job_view};
 ghost use Rattle.search_ctx.specs.Fields.{HasDistinctNames};
 ghost use Rattle.command_parts.specs.Ends.{EndsAsTold, LeavesInput};
 ghost use Rattle.document_replies.specs.LineRunReplies.{stateless};
+ghost use Rattle.document_replies.specs.LinesSeen.{lines_seen};
 ghost use Rattle.document_replies.specs.Passing.{Passes};
 ghost use Rattle.job_commands.specs.Contexts.{context_in, keys_in};
-ghost use Rattle.job_commands.specs.Documents.{EndsPrepared, GivesReplies, Lists, context_seen, front_for, ran_by};
+ghost use Rattle.job_commands.specs.Documents.{EndsPrepared, GivesReplies, Lists, front_for, ran_by};
 ghost use Rattle.job_commands.specs.Listing.{listings_of};
 ghost use Rattle.job_commands.specs.Preparing.{IsReady, codes_of};
 ghost use Rattle.job_commands.specs.Tellings.{run_telling};
@@ -18,7 +19,7 @@ use crate::contexts::lines_of;
 use crate::documents::document_job;
 use crate::preparing::{PreparedJob, prepare};
 use command_parts::{Report, Status, end_with};
-use document_replies::{Ran, SearchContext, Stateless, run_lines};
+use document_replies::{JobLines, Ran, Stateless, run_lines};
 use job_file::JobCommand;
 use job_loading::key_refused;
 use outer_io::{Files, Sink, Source};
@@ -44,15 +45,15 @@ fn report_of(alloc: Global, ran: Ran, listings: Vec<String>) -> Report
 /// Replies to each line of the input, in the context of the job.
 fn run_documents<S: Source, K: Sink>(
     alloc: Global,
-    context: SearchContext,
+    lines: JobLines,
     job: PreparedJob,
     input: &mut S,
     out: &mut K,
 ) -> Report
-    requires over { context_in (job_view job.found.job) ≡ Some (context_seen (keys_in (job_view job.found.job)) context) }
+    requires over { context_in (job_view job.found.job) ≡ Some (lines_seen (keys_in (job_view job.found.job)) lines) }
     requires ready { IsReady job }
     ensures lists { Lists (listings_of (codes_of job.scripts)) result }
-    ensures passes { Passes (stateless (GivesReplies (context_seen (keys_in (job_view job.found.job)) context) job)) (front_for job) job.found.job.limits.input (ran_by result) (S.left input.old) (S.left input.new) (K.held out.old) (K.held out.new) }
+    ensures passes { Passes (stateless (GivesReplies (lines_seen (keys_in (job_view job.found.job)) lines) job)) (front_for job) job.found.job.limits.input (ran_by result) (S.left input.old) (S.left input.new) (K.held out.old) (K.held out.new) }
     ensures read { result.status ≡ Status.ReadFault → S.faults input.new ≡ next_count (S.faults input.old) }
     ensures write { result.status ≡ Status.WriteFault → K.faults out.new ≡ next_count (K.faults out.old) }
     ensures well_read { result.status ≢ Status.ReadFault → S.faults input.new ≡ S.faults input.old }
@@ -62,7 +63,7 @@ fn run_documents<S: Source, K: Sink>(
     let Ok(told) = told_codes(alloc, &job) else {
         return Report::quiet(alloc, Status::NoMemory);
     };
-    let documents = document_job(alloc, context, job);
+    let documents = document_job(alloc, lines, job);
     let ToldCodes { front, listings } = told;
     let talker = Stateless { replier: documents };
     let ran = run_lines(alloc, &talker, front, limit, input, out);
@@ -86,11 +87,11 @@ fn run_prepared<S: Source, K: Sink>(
     ensures well_read { result.status ≢ Status.ReadFault → S.faults input.new ≡ S.faults input.old }
     ensures written { result.status ≢ Status.WriteFault → K.faults out.new ≡ K.faults out.old }
 {
-    let Ok(lines) = lines_of(alloc, &job.found) else {
+    let Ok(found) = lines_of(alloc, &job.found) else {
         return Report::quiet(alloc, Status::NoMemory);
     };
-    match lines {
-        Some(context) => run_documents(alloc, context, job, input, out),
+    match found {
+        Some(lines) => run_documents(alloc, lines, job, input, out),
         None => {
             let stop = key_refused(alloc, "context");
             Report::quiet(alloc, end_with(&stop, out))

@@ -1,6 +1,7 @@
 //! With what the runs of a job start.
 ghost use Rattle.job_commands.specs.Starts.{LinesRunTyped, LinesStartWell};
 
+use document_replies::{changes_are_typed, changes_fit};
 use script_engine::programs_keep_their_rules;
 use search_ctx::{lines_are_typed, lines_fit, params_are_objects};
 
@@ -12,6 +13,8 @@ pub fn lines_start_well()
 {
     lines_fit();
     lines_are_typed();
+    changes_fit();
+    changes_are_typed();
     params_are_objects();
     programs_keep_their_rules();
 }

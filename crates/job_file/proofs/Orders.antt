@@ -3,7 +3,7 @@ use Rattle.std.proofs.Common.{◌≡◌, ℕ, ◌<◌, ◌≤◌, [], ◌∷◌,
 use Rattle.std.proofs.lemmas.Bool.Decides.{nat_tests}
 use Rattle.serde_json.specs.View.{items_view}
 use Rattle.serde_json.specs.declared.value.Value.{Value}
-use Rattle.job_file.specs.Limits.{entries, all_name_shards, is_order}
+use Rattle.job_file.specs.Limits.{entries, all_name_turns, is_order}
 
 pub entries_counted : (vs : List Value) → length (entries (items_view vs)) ≡ length vs
 entries_counted [] = refl
@@ -15,8 +15,8 @@ short m n e h = rw e (grind (arith, nat_tests))
 long : (m n : ℕ) → m ≡ n → 100000 < n → nat_le m 100000 ≡ false
 long m n e h = rw e (grind (arith, nat_tests))
 
-pub order_if_short : (shards : ℕ) (vs : List Value) → length vs ≤ 100000 → is_order shards (entries (items_view vs)) ≡ all_name_shards shards (entries (items_view vs))
-order_if_short shards vs h = rw (short (length (entries (items_view vs))) (length vs) (entries_counted vs) h) refl
+pub order_if_short : (count : ℕ) (vs : List Value) → length vs ≤ 100000 → is_order count (entries (items_view vs)) ≡ all_name_turns count (entries (items_view vs))
+order_if_short count vs h = rw (short (length (entries (items_view vs))) (length vs) (entries_counted vs) h) refl
 
-pub no_order_if_long : (shards : ℕ) (vs : List Value) → 100000 < length vs → is_order shards (entries (items_view vs)) ≡ false
-no_order_if_long shards vs h = rw (long (length (entries (items_view vs))) (length vs) (entries_counted vs) h) refl
+pub no_order_if_long : (count : ℕ) (vs : List Value) → 100000 < length vs → is_order count (entries (items_view vs)) ≡ false
+no_order_if_long count vs h = rw (long (length (entries (items_view vs))) (length vs) (entries_counted vs) h) refl

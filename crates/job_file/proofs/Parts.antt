@@ -24,7 +24,7 @@ first_of_four : (a : Option (List ℕ)) (b c : Option Fault) (d : Option (List �
     → first (option_map field a ∷ b ∷ c ∷ option_map mapping d ∷ []) ≡ None
 first_of_four a b c d h i j k = rw (h, i, j, k) refl
 
-pub no_fault : (context : JobContext) (file : Data) → unknown_key context file ≡ None → first (map (key_fault context file) keys) ≡ None → first (range_faults file) ≡ None
+pub no_fault : (context : JobContext) (file : Data) → unknown_key context file ≡ None → first (map (key_fault context file) keys) ≡ None → first (range_faults context file) ≡ None
     → bad_field (members_of (value_at k.Mapping file)) ≡ None → fault_of context file ≡ None
 unfolding fault_of
 no_fault context file known right within good = first_of_four _ _ _ _ known right within good
@@ -71,11 +71,11 @@ unfolding fault_of
 types_answer context file error known h = fault_answers context file error (passes_on error _ (fault_of context file) (λ f. at_second _ _ _ _ f known) h)
 
 pub range_answers : (context : JobContext) (file : Data) (error : JobErr) → unknown_key context file ≡ None → first (map (key_fault context file) keys) ≡ None
-    → IsFault error (first (range_faults file)) → Answered job_view (Err error) (job_in context file)
+    → IsFault error (first (range_faults context file)) → Answered job_view (Err error) (job_in context file)
 unfolding fault_of
 range_answers context file error known right h = fault_answers context file error (passes_on error _ (fault_of context file) (λ f. at_third _ _ _ _ f known right) h)
 
-pub mapping_answers : (context : JobContext) (file : Data) (error : JobErr) → unknown_key context file ≡ None → first (map (key_fault context file) keys) ≡ None → first (range_faults file) ≡ None
+pub mapping_answers : (context : JobContext) (file : Data) (error : JobErr) → unknown_key context file ≡ None → first (map (key_fault context file) keys) ≡ None → first (range_faults context file) ≡ None
     → IsFault error (option_map mapping (bad_field (members_of (value_at k.Mapping file)))) → Answered job_view (Err error) (job_in context file)
 unfolding fault_of
 mapping_answers context file error known right within h = fault_answers context file error (passes_on error _ (fault_of context file) (λ f. at_fourth _ _ _ _ f known right within) h)
@@ -87,10 +87,10 @@ unfolding job_in
 job_answers context file job h same = rw (h, same) refl
 
 pub parts_are_the_job : (context : JobContext) (file : Data) (made : Numbers) (fields : Mapping) → made.limits ≡ limits_of file → made.shards ≡ shards_of file
-    → made.order.items ≡ numbers (entries_of (value_at k.Order file)) → made.slice ≡ natural (number_of l.Slice file) → fields_view fields.fields.items ≡ fields_of (members_of (value_at k.Mapping file))
+    → made.order.items ≡ numbers (entries_of (value_at k.Order file)) → made.slice ≡ natural (number_of l.Slice file) → made.capacity ≡ natural (number_of l.Capacity file) → fields_view fields.fields.items ≡ fields_of (members_of (value_at k.Mapping file))
     → parts_of context file made fields ≡ job_of context file
 unfolding job_of
-parts_are_the_job context file made fields limits shards order slice mapped = rw (limits, shards, order, slice, mapped) refl
+parts_are_the_job context file made fields limits shards order slice capacity mapped = rw (limits, shards, order, slice, capacity, mapped) refl
 
 -- ---- exits
 

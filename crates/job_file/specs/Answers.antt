@@ -1,7 +1,7 @@
 -- What reading a job file has answered.
-use Rattle.std.specs.Prelude.{◌≡◌, ℕ, List, Option, Some, option_map, Result, Ok, Err, map, string_bytes, String}
+use Rattle.std.specs.Prelude.{◌≡◌, ℕ, List, Option, Some, None, option_map, Result, Ok, Err, map, string_bytes, String}
 use Rattle.std.specs.declared.alloc.Global.{Global}
-use Rattle.serde_json.specs.Data.{Data}
+use Rattle.serde_json.specs.Data.{Data, null, object, no_members}
 use Rattle.serde_json.specs.Find.{as_str}
 use Rattle.serde_json.specs.View.{view}
 use Rattle.job_file.specs.declared.mapping.Mapping.{Mapping}
@@ -9,13 +9,16 @@ use Rattle.job_file.specs.declared.mapping.FieldKind.{FieldKind}
 use Rattle.job_file.specs.declared.mapping.MapErr.{MapErr}
 use Rattle.job_file.specs.declared.mapping.MapErr.TheVariants as m
 use Rattle.job_file.specs.declared.job.Job.{Job}
+use Rattle.job_file.specs.declared.particulars.JobParticulars.{JobParticulars}
 use Rattle.job_file.specs.declared.error.JobErr.{JobErr}
 use Rattle.job_file.specs.declared.error.JobErr.TheVariants as e
 use Rattle.job_file.specs.declared.context.JobContext.{JobContext}
 use Rattle.job_file.specs.declared.keys.Key.TheVariants as k
 use Rattle.job_file.specs.declared.numbers.Numbers.{Numbers}
+use Rattle.job_file.specs.declared.limits.Limit.TheVariants as l
 use Rattle.job_file.specs.Keys.{row_of, value_at}
-use Rattle.job_file.specs.Jobs.{JobData, Fault, syntax, field, range, mapping, script_keys, text_at, truth_at}
+use Rattle.job_file.specs.Limits.{row_of_limit}
+use Rattle.job_file.specs.Jobs.{JobData, Particulars, Fault, syntax, field, range, mapping, script_keys, text_at, truth_at}
 
 -- ---- views
 
@@ -24,6 +27,16 @@ fields_view fields = map (λ field. (string_bytes field.0, field.1)) fields
 
 abbrev pub scripts_view : List (String Global × String Global) → List (List ℕ × List ℕ)
 scripts_view scripts = map (λ script. (string_bytes script.0, string_bytes script.1)) scripts
+
+abbrev pub particulars_view : JobParticulars → Particulars
+particulars_view p = record {
+  documents = view p.documents;
+  pipeline = view p.pipeline;
+  capacity = p.capacity;
+  functions = view p.functions;
+  score_mode = option_map string_bytes p.score_mode;
+  boost_mode = option_map string_bytes p.boost_mode;
+}
 
 -- a job as plain data
 abbrev pub job_view : Job → JobData
@@ -41,6 +54,22 @@ job_view job = record {
   steps = job.steps;
   members = job.members;
   prelude = job.prelude;
+  particulars = particulars_view job.particulars;
+}
+
+-- what a job of none of these commands has
+abbrev pub no_particulars : Particulars
+no_particulars = record { documents = object no_members; pipeline = null; capacity = (row_of_limit l.Capacity).default; functions = null; score_mode = None; boost_mode = None }
+
+-- what is particular in a file, with a number for its capacity
+abbrev pub particular_parts : Data → ℕ → Particulars
+particular_parts file capacity = record {
+  documents = value_at k.Documents file;
+  pipeline = value_at k.Pipeline file;
+  capacity = capacity;
+  functions = value_at k.Functions file;
+  score_mode = as_str (value_at k.ScoreMode file);
+  boost_mode = as_str (value_at k.BoostMode file);
 }
 
 -- the job that an object's texts and flags make up with numbers and a mapping
@@ -59,6 +88,7 @@ parts_of context file numbers fields = record {
   steps = truth_at k.Steps file;
   members = truth_at k.Members file;
   prelude = truth_at k.Prelude file;
+  particulars = particular_parts file numbers.capacity;
 }
 
 -- ---- answers

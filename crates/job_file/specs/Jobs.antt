@@ -67,26 +67,45 @@ limit_fault file limit = if is_in_range limit (number_of limit file) then None e
 abbrev pub shards_of : Data → ℕ
 shards_of file = natural (number_of l.Shards file)
 
-abbrev pub order_fault : Data → Option Fault
-order_fault file = if is_order (shards_of file) (entries_of (value_at k.Order file)) then None else Some (range (row_of_limit l.Order).name)
+-- Of how many an entry of `order` may name one: shards take turns, and in `updates` clients do.
+abbrev pub count_of : JobContext → ℕ → ℕ
+count_of c.Updates shards = 10000
+count_of context shards = shards
 
--- the numbers of the turns of shards
-abbrev pub turn_faults : Data → List (Option Fault)
-turn_faults file = limit_fault file l.Shards ∷ order_fault file ∷ limit_fault file l.Slice ∷ []
+abbrev pub order_fault : JobContext → Data → Option Fault
+order_fault context file = if is_order (count_of context (shards_of file)) (entries_of (value_at k.Order file)) then None else Some (range (row_of_limit l.Order).name)
 
-abbrev pub range_faults : Data → List (Option Fault)
-range_faults file = limit_fault file l.Loop ∷ limit_fault file l.Depth ∷ limit_fault file l.Ticks ∷ limit_fault file l.Room ∷ limit_fault file l.Input ∷ turn_faults file
+-- the numbers behind those of `limits`
+abbrev pub turn_faults : JobContext → Data → List (Option Fault)
+turn_faults context file = limit_fault file l.Shards ∷ order_fault context file ∷ limit_fault file l.Slice ∷ limit_fault file l.Capacity ∷ []
+
+abbrev pub range_faults : JobContext → Data → List (Option Fault)
+range_faults context file =
+    limit_fault file l.Loop ∷ limit_fault file l.Depth ∷ limit_fault file l.Ticks ∷ limit_fault file l.Room ∷ limit_fault file l.Input ∷ turn_faults context file
 
 -- the first thing that is wrong with an object as a job of a context
 unfoldable pub fault_of : JobContext → Data → Option Fault
 fault_of context file =
     first (option_map field (unknown_key context file)
     ∷ first (map (key_fault context file) keys)
-    ∷ first (range_faults file)
+    ∷ first (range_faults context file)
     ∷ option_map mapping (bad_field (members_of (value_at k.Mapping file)))
     ∷ [])
 
 -- ---- the job
+
+-- what jobs of one command alone have; the others have the defaults
+pub record Particulars : Type 0 where
+  -- of `updates`: an object from ids to documents
+  pub documents : Data
+  -- of `pipe`
+  pub pipeline : Data
+  -- of `serve`
+  pub capacity : ℕ
+  -- of scores by functions, with the modes, which multiply where there is none
+  pub functions : Data
+  pub score_mode : Option (List ℕ)
+  pub boost_mode : Option (List ℕ)
 
 pub record JobData : Type 0 where
   pub context : JobContext
@@ -103,6 +122,7 @@ pub record JobData : Type 0 where
   pub steps : Bool
   pub members : Bool
   pub prelude : Bool
+  pub particulars : Particulars
 
 abbrev pub text_at : Key → Data → List ℕ
 text_at key file = unwrap_or (as_str (value_at key file)) []
@@ -113,6 +133,10 @@ truth_at key file = unwrap_or (as_bool (value_at key file)) false
 -- the keys of the scripts of a context
 abbrev pub script_keys : JobContext → List Key
 script_keys c.Metric = k.Init ∷ k.Map ∷ k.Combine ∷ k.Reduce ∷ []
+-- those of pipelines and functions stand in them, and stored scripts in lines
+script_keys c.Pipe = []
+script_keys c.Serve = []
+script_keys c.FunctionScore = []
 script_keys context = k.Script ∷ []
 
 abbrev pub limits_of : Data → JobLimits
@@ -122,6 +146,16 @@ limits_of file = record {
   ticks = natural (number_of l.Ticks file);
   room = natural (number_of l.Room file);
   input = natural (number_of l.Input file);
+}
+
+abbrev pub particulars_of : Data → Particulars
+particulars_of file = record {
+  documents = value_at k.Documents file;
+  pipeline = value_at k.Pipeline file;
+  capacity = natural (number_of l.Capacity file);
+  functions = value_at k.Functions file;
+  score_mode = as_str (value_at k.ScoreMode file);
+  boost_mode = as_str (value_at k.BoostMode file);
 }
 
 -- the job that an object denotes in a context, where nothing is wrong with it
@@ -140,6 +174,7 @@ job_of context file = record {
   steps = truth_at k.Steps file;
   members = truth_at k.Members file;
   prelude = truth_at k.Prelude file;
+  particulars = particulars_of file;
 }
 
 -- ---- reading

@@ -26,6 +26,7 @@ row_of_limit l.Input = limit_row (codes "input") (2 ^ 30) 1 (2 ^ 32)
 row_of_limit l.Shards = limit_row (codes "shards") 1 1 64
 row_of_limit l.Order = limit_row (codes "order") 0 0 100000
 row_of_limit l.Slice = limit_row (codes "slice") 1000000 1 1000000000
+row_of_limit l.Capacity = limit_row (codes "capacity") 100 1 1000
 
 -- the limits inside `limits`
 abbrev pub inside : List Limit
@@ -50,6 +51,7 @@ abbrev pub place_of : Limit → Data → Data
 place_of l.Shards file = file
 place_of l.Slice file = file
 place_of l.Order file = file
+place_of l.Capacity file = file
 place_of other file = value_at k.Limits file
 
 -- the number of a limit, or its default
@@ -68,19 +70,19 @@ abbrev pub natural : ℤ → ℕ
 natural (pos n) = n
 natural (negsuc n) = 0
 
--- an entry of `order` names one of so many shards
-abbrev pub names_shard : ℕ → Option ℤ → Bool
-names_shard shards (Some (pos n)) = nat_lt n shards
-names_shard shards (Some (negsuc n)) = false
-names_shard shards None = false
+-- an entry of `order` names one of so many that take turns
+abbrev pub names_turn : ℕ → Option ℤ → Bool
+names_turn count (Some (pos n)) = nat_lt n count
+names_turn count (Some (negsuc n)) = false
+names_turn count None = false
 
-abbrev pub all_name_shards : ℕ → List (Option ℤ) → Bool
-all_name_shards shards [] = true
-all_name_shards shards (n ∷ ns) = names_shard shards n && all_name_shards shards ns
+abbrev pub all_name_turns : ℕ → List (Option ℤ) → Bool
+all_name_turns count [] = true
+all_name_turns count (n ∷ ns) = names_turn count n && all_name_turns count ns
 
--- `order` has at most so many entries, each below the number of shards
+-- `order` has at most so many entries, each below the number of those that take turns
 abbrev pub is_order : ℕ → List (Option ℤ) → Bool
-is_order shards ns = nat_le (length ns) (row_of_limit l.Order).most && all_name_shards shards ns
+is_order count ns = nat_le (length ns) (row_of_limit l.Order).most && all_name_turns count ns
 
 abbrev pub numbers : List (Option ℤ) → List ℕ
 numbers [] = []

@@ -1,5 +1,5 @@
 -- Which values have the type of a key.
-use Rattle.std.specs.Prelude.{ℕ, Bool, true, false, ◌&&◌, List, Option, Some, None, is_some}
+use Rattle.std.specs.Prelude.{ℕ, Bool, true, false, ◌&&◌, List, [], ◌∷◌, Option, Some, None, codes, is_some}
 use Rattle.std.specs.Str.{bytes_eq}
 use Rattle.std.specs.List.{list_any}
 use Rattle.serde_json.specs.Data.{Data, null, boolean, number, string, array, object, Items, no_items, item, Members, no_members, member}
@@ -45,6 +45,24 @@ abbrev pub if_present : {A : Type 0} → (A → Bool) → Option A → Bool
 if_present test None = false
 if_present test (Some x) = test x
 
+-- an object whose numbers are whole
+abbrev pub is_document : Data → Bool
+is_document d = if_present members_have_whole_numbers (as_object d)
+
+-- each member is such an object
+abbrev pub are_documents : Members → Bool
+are_documents no_members = true
+are_documents (member name d ms) = is_document d && are_documents ms
+
+abbrev pub score_modes : List (List ℕ)
+score_modes = codes "multiply" ∷ codes "sum" ∷ codes "first" ∷ codes "max" ∷ codes "min" ∷ []
+
+abbrev pub boost_modes : List (List ℕ)
+boost_modes = codes "multiply" ∷ codes "replace" ∷ codes "sum" ∷ codes "max" ∷ codes "min" ∷ []
+
+abbrev pub is_mode : List (List ℕ) → Data → Bool
+is_mode modes d = if_present (λ name. list_any (bytes_eq name) modes) (as_str d)
+
 abbrev pub is_of_type : ValueType → Data → Bool
 is_of_type t.Text d = is_some (as_str d)
 is_of_type t.Object d = is_some (as_object d)
@@ -53,3 +71,7 @@ is_of_type t.Limits d = if_present are_limits (as_object d)
 is_of_type t.Number d = is_whole d
 is_of_type t.Numbers d = if_present are_whole (as_array d)
 is_of_type t.Truth d = is_some (as_bool d)
+is_of_type t.Documents d = if_present are_documents (as_object d)
+is_of_type t.Values d = is_some (as_array d)
+is_of_type t.ScoreMode d = is_mode score_modes d
+is_of_type t.BoostMode d = is_mode boost_modes d

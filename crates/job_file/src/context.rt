@@ -1,7 +1,7 @@
 //! The contexts of jobs, and the commands that read them.
 
 ghost use Rattle.std.specs.Prelude.{◌≡◌};
-ghost use Rattle.job_file.specs.Contexts.{context_names, is_built, named, takes};
+ghost use Rattle.job_file.specs.Contexts.{context_names, is_built, is_of_one_command, is_run, named, takes};
 
 /// What a job's scripts are run for.
 #[derive(Clone, Copy, PartialEq, Eq)]
@@ -20,6 +20,14 @@ pub enum JobContext {
     Ingest,
     /// A value of all documents.
     Metric,
+    /// Many updates of one store of documents.
+    Updates,
+    /// Documents through a pipeline before they are stored.
+    Pipe,
+    /// Scripts that are stored, and run when a line asks for it.
+    Serve,
+    /// The score of a document by functions.
+    FunctionScore,
 }
 
 /// A command that reads a job file.
@@ -31,6 +39,12 @@ pub enum JobCommand {
     List,
     /// The job is run over its input.
     Run,
+    /// The updates of its input are made.
+    Updates,
+    /// The documents of its input go through its pipeline.
+    Pipe,
+    /// The commands of its input are obeyed.
+    Serve,
 }
 
 impl JobContext {
@@ -46,6 +60,10 @@ impl JobContext {
             "update" => Some(JobContext::Update),
             "ingest" => Some(JobContext::Ingest),
             "metric" => Some(JobContext::Metric),
+            "updates" => Some(JobContext::Updates),
+            "pipe" => Some(JobContext::Pipe),
+            "serve" => Some(JobContext::Serve),
+            "function_score" => Some(JobContext::FunctionScore),
             _ => None,
         }
     }
@@ -55,8 +73,38 @@ impl JobContext {
         ensures { result ≡ is_built self }
     {
         match self {
-            JobContext::Eval | JobContext::Filter | JobContext::Score | JobContext::Field => true,
-            JobContext::Update | JobContext::Ingest | JobContext::Metric => false,
+            JobContext::Eval
+            | JobContext::Filter
+            | JobContext::Score
+            | JobContext::Field
+            | JobContext::Update
+            | JobContext::Ingest => true,
+            JobContext::Metric
+            | JobContext::Updates
+            | JobContext::Pipe
+            | JobContext::Serve
+            | JobContext::FunctionScore => false,
+        }
+    }
+
+    /// Whether jobs of this context are of one command alone.
+    fn is_of_one_command(self) -> bool
+        ensures { result ≡ is_of_one_command self }
+    {
+        matches!(
+            self,
+            JobContext::Updates | JobContext::Pipe | JobContext::Serve | JobContext::FunctionScore
+        )
+    }
+
+    /// Whether `run` takes jobs of this context.
+    fn is_run(self) -> bool
+        ensures { result ≡ is_run self }
+    {
+        match self {
+            JobContext::Eval => false,
+            JobContext::FunctionScore => true,
+            _ => !self.is_of_one_command(),
         }
     }
 }
@@ -66,9 +114,12 @@ impl JobCommand {
     pub fn takes(self, context: JobContext) -> bool
         ensures { result ≡ takes self context }
     {
-        match (self, context) {
-            (JobCommand::Run, JobContext::Eval) => false,
-            _ => true,
+        match self {
+            JobCommand::Check | JobCommand::List => !context.is_of_one_command(),
+            JobCommand::Run => context.is_run(),
+            JobCommand::Updates => matches!(context, JobContext::Updates),
+            JobCommand::Pipe => matches!(context, JobContext::Pipe),
+            JobCommand::Serve => matches!(context, JobContext::Serve),
         }
     }
 }

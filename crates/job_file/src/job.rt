@@ -3,6 +3,7 @@
 use crate::context::JobContext;
 use crate::limits::JobLimits;
 use crate::mapping::Mapping;
+use crate::particulars::JobParticulars;
 use serde_json::Value;
 
 /// What a job file asks for, with its defaults.
@@ -29,6 +30,7 @@ pub struct Job {
     pub members: bool,
     /// Whether `list` writes the prelude's listing.
     pub prelude: bool,
+    pub particulars: JobParticulars,
 }
 
 impl Drop for Job {
@@ -47,6 +49,7 @@ impl Drop for Job {
             steps: _,
             members: _,
             prelude: _,
+            particulars: _particulars,
         } = self;
     }
 }

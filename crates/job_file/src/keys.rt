@@ -29,6 +29,12 @@ pub enum Key {
     Steps,
     Members,
     Prelude,
+    Documents,
+    Pipeline,
+    Capacity,
+    Functions,
+    ScoreMode,
+    BoostMode,
 }
 
 /// What the value of a key has to be.
@@ -45,19 +51,37 @@ pub enum ValueType {
     Numbers,
     /// `true` or `false`.
     Truth,
+    /// An object of objects in which each number is a whole one of 64 bits with a sign.
+    Documents,
+    /// A list of anything.
+    Values,
+    /// One of the five names of how values of functions are combined.
+    ScoreMode,
+    /// One of the five names of how a score and the value of functions are combined.
+    BoostMode,
 }
 
 /// The contexts that have a key.
 #[derive(Clone, Copy)]
 pub enum Contexts {
     All,
-    AllButMetric,
-    AllButEval,
-    /// Filter, score, field and metric.
+    /// Those of `check`, `list` and `run`: all but those of one command alone.
+    Plain,
+    /// Of these, those that have lines.
+    WithLines,
+    /// Those that have one script.
+    WithScript,
+    WithParams,
     WithMapping,
-    /// All that reply to each line of the input.
+    /// Those of `run` that reply to each line of the input.
     WithReplies,
+    /// Those whose shards or clients take turns.
+    WithTurns,
     Metric,
+    Updates,
+    Pipe,
+    Serve,
+    FunctionScore,
 }
 
 /// Whether a key has to be there.
@@ -76,7 +100,7 @@ pub struct KeyRow {
 }
 
 /// The keys in the order of the table.
-pub const KEYS: [Key; 17] = [
+pub const KEYS: [Key; 23] = [
     Key::Context,
     Key::Script,
     Key::Init,
@@ -94,6 +118,12 @@ pub const KEYS: [Key; 17] = [
     Key::Steps,
     Key::Members,
     Key::Prelude,
+    Key::Documents,
+    Key::Pipeline,
+    Key::Capacity,
+    Key::Functions,
+    Key::ScoreMode,
+    Key::BoostMode,
 ];
 
 /// A row of the table.
@@ -116,14 +146,66 @@ impl Contexts {
     {
         match self {
             Contexts::All => true,
-            Contexts::AllButMetric => !matches!(context, JobContext::Metric),
-            Contexts::AllButEval => !matches!(context, JobContext::Eval),
+            Contexts::Plain => !matches!(
+                context,
+                JobContext::Updates
+                    | JobContext::Pipe
+                    | JobContext::Serve
+                    | JobContext::FunctionScore
+            ),
+            Contexts::WithLines => matches!(
+                context,
+                JobContext::Filter
+                    | JobContext::Score
+                    | JobContext::Field
+                    | JobContext::Update
+                    | JobContext::Ingest
+                    | JobContext::Metric
+            ),
+            Contexts::WithScript => matches!(
+                context,
+                JobContext::Eval
+                    | JobContext::Filter
+                    | JobContext::Score
+                    | JobContext::Field
+                    | JobContext::Update
+                    | JobContext::Ingest
+                    | JobContext::Updates
+            ),
+            Contexts::WithParams => matches!(
+                context,
+                JobContext::Filter
+                    | JobContext::Score
+                    | JobContext::Field
+                    | JobContext::Update
+                    | JobContext::Ingest
+                    | JobContext::Metric
+                    | JobContext::Updates
+                    | JobContext::FunctionScore
+            ),
             Contexts::WithMapping => matches!(
                 context,
-                JobContext::Filter | JobContext::Score | JobContext::Field | JobContext::Metric
+                JobContext::Filter
+                    | JobContext::Score
+                    | JobContext::Field
+                    | JobContext::Metric
+                    | JobContext::Serve
+                    | JobContext::FunctionScore
             ),
-            Contexts::WithReplies => !matches!(context, JobContext::Eval | JobContext::Metric),
+            Contexts::WithReplies => matches!(
+                context,
+                JobContext::Filter
+                    | JobContext::Score
+                    | JobContext::Field
+                    | JobContext::Update
+                    | JobContext::Ingest
+            ),
+            Contexts::WithTurns => matches!(context, JobContext::Metric | JobContext::Updates),
             Contexts::Metric => matches!(context, JobContext::Metric),
+            Contexts::Updates => matches!(context, JobContext::Updates),
+            Contexts::Pipe => matches!(context, JobContext::Pipe),
+            Contexts::Serve => matches!(context, JobContext::Serve),
+            Contexts::FunctionScore => matches!(context, JobContext::FunctionScore),
         }
     }
 }
@@ -151,6 +233,12 @@ impl Key {
             Key::Steps => "steps",
             Key::Members => "members",
             Key::Prelude => "prelude",
+            Key::Documents => "documents",
+            Key::Pipeline => "pipeline",
+            Key::Capacity => "capacity",
+            Key::Functions => "functions",
+            Key::ScoreMode => "score_mode",
+            Key::BoostMode => "boost_mode",
         }
     }
 
@@ -162,26 +250,44 @@ impl Key {
     {
         match self {
             Key::Context => row(ValueType::Text, Contexts::All, Presence::Required),
-            Key::Script => row(ValueType::Text, Contexts::AllButMetric, Presence::Required),
+            Key::Script => row(ValueType::Text, Contexts::WithScript, Presence::Required),
             Key::Init => row(ValueType::Text, Contexts::Metric, Presence::Optional),
             Key::Map => row(ValueType::Text, Contexts::Metric, Presence::Required),
             Key::Combine => row(ValueType::Text, Contexts::Metric, Presence::Required),
             Key::Reduce => row(ValueType::Text, Contexts::Metric, Presence::Required),
             Key::Params => row(
                 ValueType::Parameters,
-                Contexts::AllButEval,
+                Contexts::WithParams,
                 Presence::Optional,
             ),
             Key::Mapping => row(ValueType::Object, Contexts::WithMapping, Presence::Optional),
             Key::Allow => row(ValueType::Text, Contexts::All, Presence::Optional),
             Key::Limits => row(ValueType::Limits, Contexts::All, Presence::Optional),
             Key::Shards => row(ValueType::Number, Contexts::Metric, Presence::Optional),
-            Key::Order => row(ValueType::Numbers, Contexts::Metric, Presence::Optional),
+            Key::Order => row(ValueType::Numbers, Contexts::WithTurns, Presence::Optional),
             Key::Slice => row(ValueType::Number, Contexts::Metric, Presence::Optional),
-            Key::Listing => row(ValueType::Truth, Contexts::AllButEval, Presence::Optional),
+            Key::Listing => row(ValueType::Truth, Contexts::WithLines, Presence::Optional),
             Key::Steps => row(ValueType::Truth, Contexts::WithReplies, Presence::Optional),
             Key::Members => row(ValueType::Truth, Contexts::WithReplies, Presence::Optional),
-            Key::Prelude => row(ValueType::Truth, Contexts::All, Presence::Optional),
+            Key::Prelude => row(ValueType::Truth, Contexts::Plain, Presence::Optional),
+            Key::Documents => row(ValueType::Documents, Contexts::Updates, Presence::Optional),
+            Key::Pipeline => row(ValueType::Values, Contexts::Pipe, Presence::Required),
+            Key::Capacity => row(ValueType::Number, Contexts::Serve, Presence::Optional),
+            Key::Functions => row(
+                ValueType::Values,
+                Contexts::FunctionScore,
+                Presence::Required,
+            ),
+            Key::ScoreMode => row(
+                ValueType::ScoreMode,
+                Contexts::FunctionScore,
+                Presence::Optional,
+            ),
+            Key::BoostMode => row(
+                ValueType::BoostMode,
+                Contexts::FunctionScore,
+                Presence::Optional,
+            ),
         }
     }
 

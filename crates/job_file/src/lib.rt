@@ -9,6 +9,7 @@ mod limits;
 mod lookup;
 mod mapping;
 mod numbers;
+mod particulars;
 mod reading;
 mod values;
 
@@ -17,4 +18,5 @@ pub use error::JobErr;
 pub use job::Job;
 pub use limits::JobLimits;
 pub use mapping::{FieldKind, MapErr, Mapping};
+pub use particulars::JobParticulars;
 pub use values::{has_whole_numbers, members_have_whole_numbers};

@@ -22,6 +22,8 @@ pub enum Limit {
     /// The count of entries of `order`.
     Order,
     Slice,
+    /// How many compiled scripts a cache keeps.
+    Capacity,
 }
 
 /// The limits of a job.
@@ -74,6 +76,7 @@ impl Limit {
             Limit::Shards => "shards",
             Limit::Order => "order",
             Limit::Slice => "slice",
+            Limit::Capacity => "capacity",
         }
     }
 
@@ -92,6 +95,7 @@ impl Limit {
             Limit::Shards => bounded(1, 1, 64),
             Limit::Order => bounded(0, 0, 100_000),
             Limit::Slice => bounded(1_000_000, 1, 1_000_000_000),
+            Limit::Capacity => bounded(100, 1, 1_000),
         }
     }
 }

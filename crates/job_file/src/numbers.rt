@@ -3,12 +3,13 @@
 ghost use Rattle.std.specs.Prelude.{◌≡◌, ◌≤◌, [], ◌∷◌, pos, None, Some, map, option_map, IfOk, IfErr, IfSome, IfNone, true, false, unwrap_or};
 ghost use Rattle.serde_json.specs.View.{view, items_view};
 ghost use Rattle.job_file.specs.Answers.{IsFault};
-ghost use Rattle.job_file.specs.Jobs.{first, limit_fault, limits_of, range, range_faults, shards_of, turn_faults};
+ghost use Rattle.job_file.specs.Jobs.{count_of, first, limit_fault, limits_of, range, range_faults, shards_of, turn_faults};
 ghost use Rattle.job_file.specs.Keys.{value_at};
-ghost use Rattle.job_file.specs.Limits.{all_name_shards, entries, entries_of, is_order, natural, names_shard, number_of, numbers, row_of_limit, whole_of};
+ghost use Rattle.job_file.specs.Limits.{all_name_turns, entries, entries_of, is_order, natural, names_turn, number_of, numbers, row_of_limit, whole_of};
 ghost use Rattle.job_file.specs.declared.keys.Key.TheVariants as k;
 ghost use Rattle.job_file.specs.declared.limits.Limit.TheVariants as l;
 
+use crate::context::JobContext;
 use crate::error::JobErr;
 use crate::keys::Key;
 use crate::limits::{JobLimits, Limit};
@@ -19,6 +20,9 @@ use std::alloc::{AllocError, Global};
 /// The most entries of `order`.
 const ORDER_COUNT: usize = 100_000;
 
+/// The most clients of `updates`.
+const CLIENT_COUNT: u32 = 10_000;
+
 /// The numbers of a job.
 #[derive(Drop)]
 pub struct Numbers {
@@ -26,6 +30,7 @@ pub struct Numbers {
     pub shards: u32,
     pub order: Vec<u32>,
     pub slice: u64,
+    pub capacity: u32,
 }
 
 /// The number of a limit, or its default.
@@ -33,7 +38,7 @@ fn number_of(limit: Limit, file: &Value) -> i64
     ensures { result ≡ number_of limit (view file.now) }
 {
     let place = match limit {
-        Limit::Shards | Limit::Order | Limit::Slice => Some(file),
+        Limit::Shards | Limit::Order | Limit::Slice | Limit::Capacity => Some(file),
         _ => value_of(file, Key::Limits),
     };
     let value = match place {
@@ -64,10 +69,10 @@ fn in_range(limit: Limit, file: &Value) -> Result<u64, Limit>
 }
 
 /// The limits inside `limits`, or the first that is out of its range.
-fn limits_of(file: &Value) -> Result<JobLimits, Limit>
+fn limits_of(context: JobContext, file: &Value) -> Result<JobLimits, Limit>
     ensures limits { IfOk result (λ limits. limits ≡ limits_of (view file.now)) }
-    ensures within { IfOk result (λ _. first (range_faults (view file.now)) ≡ first (turn_faults (view file.now))) }
-    ensures fault { IfErr result (λ e. first (range_faults (view file.now)) ≡ Some (range (row_of_limit e).name)) }
+    ensures within { IfOk result (λ _. first (range_faults context (view file.now)) ≡ first (turn_faults context (view file.now))) }
+    ensures fault { IfErr result (λ e. first (range_faults context (view file.now)) ≡ Some (range (row_of_limit e).name)) }
 {
     let loops = in_range(Limit::Loop, file)?;
     let depth = in_range(Limit::Depth, file)?;
@@ -83,13 +88,13 @@ fn limits_of(file: &Value) -> Result<JobLimits, Limit>
     })
 }
 
-/// The number of a shard, if an entry is one.
-fn shard_of(entry: &Value, shards: u32) -> Option<u32>
-    ensures some { IfSome result (λ shard. (names_shard shards (whole_of (view entry.now)) ≡ true) × (natural (unwrap_or (whole_of (view entry.now)) (pos 0)) ≡ shard)) }
-    ensures none { IfNone result (names_shard shards (whole_of (view entry.now)) ≡ false) }
+/// The number of one of so many that take turns, if an entry is one.
+fn turn_of(entry: &Value, count: u32) -> Option<u32>
+    ensures some { IfSome result (λ turn. (names_turn count (whole_of (view entry.now)) ≡ true) × (natural (unwrap_or (whole_of (view entry.now)) (pos 0)) ≡ turn)) }
+    ensures none { IfNone result (names_turn count (whole_of (view entry.now)) ≡ false) }
 {
     match entry.as_i64() {
-        Some(number) => if 0 <= number && number < shards as i64 {
+        Some(number) => if 0 <= number && number < count as i64 {
             Some(number as u32)
         } else {
             None
@@ -98,15 +103,15 @@ fn shard_of(entry: &Value, shards: u32) -> Option<u32>
     }
 }
 
-/// The entries of a list, if each is the number of a shard.
-fn shards_in(alloc: Global, items: &Vec<Value>, shards: u32) -> Result<Option<Vec<u32>>, AllocError>
-    ensures some { IfOk result (λ order. IfSome order (λ order. (all_name_shards shards (entries (items_view items.now.items)) ≡ true) × (order.items ≡ numbers (entries (items_view items.now.items))))) }
-    ensures none { IfOk result (λ order. IfNone order (all_name_shards shards (entries (items_view items.now.items)) ≡ false)) }
+/// The entries of a list, if each is the number of one of so many.
+fn turns_in(alloc: Global, items: &Vec<Value>, count: u32) -> Result<Option<Vec<u32>>, AllocError>
+    ensures some { IfOk result (λ order. IfSome order (λ order. (all_name_turns count (entries (items_view items.now.items)) ≡ true) × (order.items ≡ numbers (entries (items_view items.now.items))))) }
+    ensures none { IfOk result (λ order. IfNone order (all_name_turns count (entries (items_view items.now.items)) ≡ false)) }
 {
     let mut order = Vec::new(alloc);
     for item in items {
-        match shard_of(item, shards) {
-            Some(shard) => order.push(shard)?,
+        match turn_of(item, count) {
+            Some(turn) => order.push(turn)?,
             None => return Ok(None),
         }
     }
@@ -114,24 +119,24 @@ fn shards_in(alloc: Global, items: &Vec<Value>, shards: u32) -> Result<Option<Ve
 }
 
 /// What a list holds, if it is in the range of `order`.
-fn order_in(alloc: Global, items: &Vec<Value>, shards: u32) -> Result<Option<Vec<u32>>, AllocError>
-    ensures some { IfOk result (λ order. IfSome order (λ order. (is_order shards (entries (items_view items.now.items)) ≡ true) × (order.items ≡ numbers (entries (items_view items.now.items))))) }
-    ensures none { IfOk result (λ order. IfNone order (is_order shards (entries (items_view items.now.items)) ≡ false)) }
+fn order_in(alloc: Global, items: &Vec<Value>, count: u32) -> Result<Option<Vec<u32>>, AllocError>
+    ensures some { IfOk result (λ order. IfSome order (λ order. (is_order count (entries (items_view items.now.items)) ≡ true) × (order.items ≡ numbers (entries (items_view items.now.items))))) }
+    ensures none { IfOk result (λ order. IfNone order (is_order count (entries (items_view items.now.items)) ≡ false)) }
 {
     if items.len() <= ORDER_COUNT {
-        shards_in(alloc, items, shards)
+        turns_in(alloc, items, count)
     } else {
         Ok(None)
     }
 }
 
 /// What `order` holds, if it is in its range.
-fn order_of(alloc: Global, file: &Value, shards: u32) -> Result<Option<Vec<u32>>, AllocError>
-    ensures some { IfOk result (λ order. IfSome order (λ order. (is_order shards (entries_of (value_at k.Order (view file.now))) ≡ true) × (order.items ≡ numbers (entries_of (value_at k.Order (view file.now)))))) }
-    ensures none { IfOk result (λ order. IfNone order (is_order shards (entries_of (value_at k.Order (view file.now))) ≡ false)) }
+fn order_of(alloc: Global, file: &Value, count: u32) -> Result<Option<Vec<u32>>, AllocError>
+    ensures some { IfOk result (λ order. IfSome order (λ order. (is_order count (entries_of (value_at k.Order (view file.now))) ≡ true) × (order.items ≡ numbers (entries_of (value_at k.Order (view file.now)))))) }
+    ensures none { IfOk result (λ order. IfNone order (is_order count (entries_of (value_at k.Order (view file.now))) ≡ false)) }
 {
     match value_of(file, Key::Order).and_then(Value::as_array) {
-        Some(items) => order_in(alloc, items, shards),
+        Some(items) => order_in(alloc, items, count),
         None => Ok(Some(Vec::new(alloc))),
     }
 }
@@ -146,16 +151,27 @@ fn out_of_range(alloc: Global, limit: Limit) -> JobErr
     }
 }
 
-/// The numbers of a job, or the first that is out of its range.
-pub fn numbers_of(alloc: Global, file: &Value) -> Result<Numbers, JobErr>
-    ensures within { IfOk result (λ _. first (range_faults (view file.now)) ≡ None) }
+/// Of how many an entry of `order` may name one: shards take turns, and in `updates` clients do.
+fn count_of(context: JobContext, shards: u32) -> u32
+    ensures { result ≡ count_of context shards }
+{
+    match context {
+        JobContext::Updates => CLIENT_COUNT,
+        _ => shards,
+    }
+}
+
+/// The numbers of a job of a context, or the first that is out of its range.
+pub fn numbers_of(alloc: Global, context: JobContext, file: &Value) -> Result<Numbers, JobErr>
+    ensures within { IfOk result (λ _. first (range_faults context (view file.now)) ≡ None) }
     ensures limits { IfOk result (λ numbers. numbers.limits ≡ limits_of (view file.now)) }
     ensures shards { IfOk result (λ numbers. numbers.shards ≡ shards_of (view file.now)) }
     ensures order { IfOk result (λ n. n.order.items ≡ numbers (entries_of (value_at k.Order (view file.now)))) }
     ensures slice { IfOk result (λ numbers. numbers.slice ≡ natural (number_of l.Slice (view file.now))) }
-    ensures fault { IfErr result (λ e. IsFault e (first (range_faults (view file.now)))) }
+    ensures capacity { IfOk result (λ numbers. numbers.capacity ≡ natural (number_of l.Capacity (view file.now))) }
+    ensures fault { IfErr result (λ e. IsFault e (first (range_faults context (view file.now)))) }
 {
-    let limits = match limits_of(file) {
+    let limits = match limits_of(context, file) {
         Ok(limits) => limits,
         Err(limit) => return Err(out_of_range(alloc, limit)),
     };
@@ -163,15 +179,20 @@ pub fn numbers_of(alloc: Global, file: &Value) -> Result<Numbers, JobErr>
         Ok(shards) => shards as u32,
         Err(limit) => return Err(out_of_range(alloc, limit)),
     };
-    let Some(order) = order_of(alloc, file, shards)? else {
+    let Some(order) = order_of(alloc, file, count_of(context, shards))? else {
         return Err(out_of_range(alloc, Limit::Order));
     };
-    match in_range(Limit::Slice, file) {
-        Ok(slice) => Ok(Numbers {
+    let slice = match in_range(Limit::Slice, file) {
+        Ok(slice) => slice,
+        Err(limit) => return Err(out_of_range(alloc, limit)),
+    };
+    match in_range(Limit::Capacity, file) {
+        Ok(capacity) => Ok(Numbers {
             limits,
             shards,
             order,
             slice,
+            capacity: capacity as u32,
         }),
         Err(limit) => Err(out_of_range(alloc, limit)),
     }

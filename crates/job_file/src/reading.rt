@@ -19,6 +19,7 @@ use crate::keys::Key;
 use crate::lookup::{text_at, truth_at, unknown_key, value_of, wrong_key};
 use crate::mapping::{MapErr, Mapping};
 use crate::numbers::{Numbers, numbers_of};
+use crate::particulars::particulars_of;
 use serde_json::{Map, Value};
 use std::alloc::{AllocError, Global};
 
@@ -91,6 +92,7 @@ fn script_keys(context: JobContext) -> &'static [Key]
 {
     match context {
         JobContext::Metric => &[Key::Init, Key::Map, Key::Combine, Key::Reduce],
+        JobContext::Pipe | JobContext::Serve | JobContext::FunctionScore => &[],
         _ => &[Key::Script],
     }
 }
@@ -145,6 +147,7 @@ fn made(
     let scripts = scripts_of(alloc, file, script_keys(context))?;
     let params = params_of(alloc, file)?;
     let allow = allow_of(alloc, file)?;
+    let particulars = particulars_of(alloc, file, numbers.capacity)?;
     Ok(Job {
         context,
         scripts,
@@ -159,6 +162,7 @@ fn made(
         steps: truth_at(file, Key::Steps),
         members: truth_at(file, Key::Members),
         prelude: truth_at(file, Key::Prelude),
+        particulars,
     })
 }
 
@@ -199,7 +203,7 @@ impl Job {
     {
         try_known(alloc, context, file)?;
         try_types(alloc, context, file)?;
-        let numbers = numbers_of(alloc, file)?;
+        let numbers = numbers_of(alloc, context, file)?;
         let mapping = mapping_of(alloc, file)?;
         Ok(made(alloc, context, file, numbers, mapping)?)
     }

@@ -2,7 +2,7 @@
 
 ghost use Rattle.std.specs.Prelude.{◌≡◌, false, true};
 ghost use Rattle.serde_json.specs.View.{view, items_view, members_view};
-ghost use Rattle.job_file.specs.Values.{are_limits, are_whole, has_whole_numbers, is_of_type, is_whole, items_have_whole_numbers, members_have_whole_numbers};
+ghost use Rattle.job_file.specs.Values.{are_limits, are_whole, are_documents, boost_modes, has_whole_numbers, is_document, is_mode, is_of_type, is_whole, items_have_whole_numbers, members_have_whole_numbers, score_modes};
 
 use crate::keys::ValueType;
 use crate::limits::names_limit;
@@ -79,6 +79,48 @@ fn are_limits(members: &Map<String, Value>) -> bool
     true
 }
 
+/// Whether a value is an object in which each number is a whole one of 64 bits with a sign.
+fn is_document(value: &Value) -> bool
+    ensures { result ≡ is_document (view value.now) }
+{
+    match value.as_object() {
+        Some(members) => members_have_whole_numbers(members),
+        None => false,
+    }
+}
+
+/// Whether the value of each member is such an object.
+fn are_documents(members: &Map<String, Value>) -> bool
+    ensures { result ≡ are_documents (members_view members.now.entries) }
+{
+    for (_name, member) in members.iter() {
+        if !is_document(member) {
+            return false;
+        }
+    }
+    true
+}
+
+/// Whether a value names one of the ways to combine the values of functions.
+fn is_score_mode(value: &Value) -> bool
+    ensures { result ≡ is_mode score_modes (view value.now) }
+{
+    match value.as_str() {
+        Some(name) => matches!(name, "multiply" | "sum" | "first" | "max" | "min"),
+        None => false,
+    }
+}
+
+/// Whether a value names one of the ways to combine a score and the value of functions.
+fn is_boost_mode(value: &Value) -> bool
+    ensures { result ≡ is_mode boost_modes (view value.now) }
+{
+    match value.as_str() {
+        Some(name) => matches!(name, "multiply" | "replace" | "sum" | "max" | "min"),
+        None => false,
+    }
+}
+
 /// Whether a value has a type.
 pub fn is_of_type(value_type: ValueType, value: &Value) -> bool
     ensures { result ≡ is_of_type value_type (view value.now) }
@@ -100,5 +142,12 @@ pub fn is_of_type(value_type: ValueType, value: &Value) -> bool
             None => false,
         },
         ValueType::Truth => value.is_boolean(),
+        ValueType::Documents => match value.as_object() {
+            Some(members) => are_documents(members),
+            None => false,
+        },
+        ValueType::Values => value.is_array(),
+        ValueType::ScoreMode => is_score_mode(value),
+        ValueType::BoostMode => is_boost_mode(value),
     }
 }

@@ -4,3 +4,4 @@
 mod files;
 mod jobs;
 mod keys;
+mod one_command;

@@ -13,3 +13,5 @@ mod line_run_tests;
 #[cfg(test)]
 mod search_ctx_tests;
 pub mod talks;
+#[cfg(test)]
+mod written;

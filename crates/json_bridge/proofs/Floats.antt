@@ -14,7 +14,8 @@ use Rattle.object_values.specs.declared.object.Object.{Object}
 use Rattle.object_values.specs.declared.object.Object.TheVariants as o
 use Rattle.object_values.specs.declared.object.Part.TheVariants as part
 use Rattle.object_heap.specs.Parts.{map_of, pairs_in}
-use Rattle.json_bridge.specs.Giving.{Key, Walk, Makes, Ends, follow, Node, AValue, AnEntry, shown_of, name_of, are_new_names, items_given, array_given, members_given, object_given, plain_given, held_given, found_given, node_given, node_at, answer_of, given_of}
+use Rattle.json_bridge.specs.Giving.{Key, Walk, Makes, Ends, follow, Node, AValue, AnEntry, shown_of, name_of, are_new_names, items_given, array_given, members_given, object_given, map_given, plain_given, held_given, found_given, node_given, node_at, answer_of, given_of}
+use Rattle.json_bridge.specs.Without.{given_without, without}
 
 -- what a walk makes is so
 abbrev Holds : {A : Type 0} → (A → Type 0) → Walk A → Type 0
@@ -136,3 +137,10 @@ answer_whole (Ends fault) d h e = absurd (cc)
 pub given_whole : (objects : List Object) (value : Value) (d : Data) → given_of objects value ≡ Ok d → has_float d ≡ false
 unfolding given_of
 given_whole objects value d e = answer_whole (node_at 100 objects (AValue value) 1000000) d (walk_whole 100 objects (AValue value) 1000000) e
+
+pub without_whole : (keys : List Value) (objects : List Object) (pairs : List (Value × Value)) (d : Data) → given_without keys objects pairs ≡ Ok d → has_float d ≡ false
+unfolding given_without
+without_whole keys objects pairs d e =
+    let give : Value → ℕ → Walk Data = λ value. node_at 99 objects (AValue value) in
+    answer_whole (map_given give (without keys pairs) 999999) d
+    (tried (are_new_names [] (without keys pairs)) (object_given give (without keys pairs) 999999) (object_whole give (λ value. walk_whole 99 objects (AValue value)) (without keys pairs) 999999)) e

@@ -4,3 +4,4 @@ pub mod Giving
 pub mod Laws
 pub mod Returning
 pub mod Starts
+pub mod Without

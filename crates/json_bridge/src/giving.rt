@@ -44,7 +44,7 @@ pub fn give(heap: &Heap, value: &Value) -> Result<Json, GiveErr>
 
 /// Meets a value, at so many levels and with so many values from here on.
 #[cycle(giving)]
-fn value_at(heap: &Heap, levels: u32, value: &Value, nodes: &mut u64) -> Result<Json, GiveErr>
+pub fn value_at(heap: &Heap, levels: u32, value: &Value, nodes: &mut u64) -> Result<Json, GiveErr>
     ensures value { IfOk result (λ json. node_at levels heap.now.objects (AValue value.now) nodes.old ≡ Makes (view json) nodes.new) }
     ensures error { IfErr result (TellsEnd (node_at levels heap.now.objects (AValue value.now) nodes.old)) }
 {

@@ -1,11 +1,16 @@
 //! Laws on what binding and giving keep.
-ghost use Rattle.json_bridge.specs.Laws.{BindFits, GivesNoFloat};
+ghost use Rattle.json_bridge.specs.Laws.{BindFits, BindFreezes, GivesNoFloat};
 ghost use Rattle.json_bridge.specs.Returning.{GivesBack};
 
 /// A law that callers may cite: a heap that fits a program or a code fits it after a value is bound in it, and so does what
 /// the value is bound to.
 pub fn binding_keeps_fit()
     ensures { BindFits }
+{}
+
+/// A law that callers may cite: nothing may change what is bound frozen, at any depth.
+pub fn binding_freezes()
+    ensures { BindFreezes }
 {}
 
 /// A law that callers may cite: what a value is given as has no float.

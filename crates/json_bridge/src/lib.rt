@@ -7,9 +7,11 @@ mod giving;
 mod laws;
 mod names;
 mod start;
+mod without;
 
 pub use binding::bind;
 pub use error::{BindErr, GiveErr, NumErr};
 pub use giving::give;
-pub use laws::{binding_keeps_fit, bound_is_given_back, giving_has_no_float};
+pub use laws::{binding_freezes, binding_keeps_fit, bound_is_given_back, giving_has_no_float};
 pub use start::Bound;
+pub use without::give_without;

@@ -1,9 +1,10 @@
 //! What is shown beside a reply where a job asks for it.
 
-ghost use Rattle.std.specs.Prelude.{◌≡◌, ◌<◌, ◌++◌, ◌∷◌, [], true, length, map, string_bytes, IfOk, OnOk};
+ghost use Rattle.std.specs.Prelude.{◌≡◌, ◌<◌, ◌++◌, ◌∷◌, [], false, true, length, map, string_bytes, IfOk, OnOk};
 ghost use Rattle.std.specs.List.{list_all};
 ghost use Rattle.serde_json.specs.Data.{string};
 ghost use Rattle.serde_json.specs.View.{items_view, view};
+ghost use Rattle.serde_json.specs.Written.{has_float};
 ghost use Rattle.allowlist.specs.Allow.{flag};
 ghost use Rattle.allowlist.specs.Index.{member_in};
 ghost use Rattle.member_names.specs.Names.{text_of};
@@ -112,25 +113,40 @@ fn with_steps(alloc: Global, shown: bool, steps: u64, reply: Json) -> Result<Jso
     }
 }
 
-/// The reply to a run over a document, with what is shown beside it.
+/// A reply to a run, with what is shown beside it.
 fn shown_reply(
     alloc: Global,
     allow: &Allow,
-    kind: SearchKind,
     keys: ShownKeys,
     outcome: &Outcome,
+    reply: Json,
 ) -> Result<Json, AllocError>
     requires { list_all (flag allow.now.members) outcome.now.reached ≡ true }
-    ensures { IfOk result (λ reply. view reply ≡ shown_reply allow.now keys outcome.now.reached outcome.now.steps (search_reply_of kind outcome.now.end outcome.now.heap.objects)) }
+    ensures { IfOk result (λ shown. view shown ≡ shown_reply allow.now keys outcome.now.reached outcome.now.steps (view reply)) }
 {
-    let reply = search_reply(alloc, kind, &outcome.end, &outcome.heap)?;
     let reached = outcome.reached.as_slice();
     let reply = with_members(alloc, allow, keys.members, reached, reply)?;
     with_steps(alloc, keys.steps, outcome.steps, reply)
 }
 
-/// The line of that reply.
-fn shown_line(
+/// The line of a reply without floats to a run, with what is shown beside it. The list has each member that was called.
+pub fn shown_line(
+    alloc: Global,
+    allow: &Allow,
+    keys: ShownKeys,
+    outcome: &Outcome,
+    reply: Json,
+) -> Result<Line, AllocError>
+    requires { list_all (flag allow.now.members) outcome.now.reached ≡ true }
+    ensures text { has_float (view reply) ≡ false → IfOk result (λ line. string_bytes line.text ≡ line_of (shown_reply allow.now keys outcome.now.reached outcome.now.steps (view reply))) }
+    ensures error { IfOk result (λ line. line.is_error ≡ is_error (shown_reply allow.now keys outcome.now.reached outcome.now.steps (view reply))) }
+{
+    let json = shown_reply(alloc, allow, keys, outcome, reply)?;
+    line_of_reply(alloc, &json)
+}
+
+/// The reply line of a run over a document, by way of a tree, with what is shown beside it.
+fn search_shown_line(
     alloc: Global,
     allow: &Allow,
     kind: SearchKind,
@@ -141,8 +157,8 @@ fn shown_line(
     ensures text { IfOk result (λ line. string_bytes line.text ≡ line_of (shown_reply allow.now keys outcome.now.reached outcome.now.steps (search_reply_of kind outcome.now.end outcome.now.heap.objects))) }
     ensures error { IfOk result (λ line. line.is_error ≡ is_error (shown_reply allow.now keys outcome.now.reached outcome.now.steps (search_reply_of kind outcome.now.end outcome.now.heap.objects))) }
 {
-    let json = shown_reply(alloc, allow, kind, keys, outcome)?;
-    line_of_reply(alloc, &json)
+    let reply = search_reply(alloc, kind, &outcome.end, &outcome.heap)?;
+    shown_line(alloc, allow, keys, outcome, reply)
 }
 
 /// The reply line of a run over a document, with what is shown beside it. The list has each member that was called.
@@ -158,7 +174,7 @@ pub fn shown_reply_line(
     ensures error { IfOk result (λ line. line.is_error ≡ is_error (shown_reply allow.now keys outcome.now.reached outcome.now.steps (search_reply_of kind outcome.now.end outcome.now.heap.objects))) }
 {
     if keys.members || keys.steps {
-        shown_line(alloc, allow, kind, keys, outcome)
+        search_shown_line(alloc, allow, kind, keys, outcome)
     } else {
         search_reply_line(alloc, kind, &outcome.end, &outcome.heap)
     }

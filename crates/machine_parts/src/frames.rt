@@ -296,6 +296,34 @@ impl Frames {
         self.top.line = line;
     }
 
+    /// Takes the upper operand off, which may be a text, and goes on at a line.
+    #[inline(always)]
+    #[tactic(auto, using(crate::proofs::Places::left_below))]
+    pub fn let_go(&mut self, line: usize)
+        ensures top { self.new.top ≡ at_line (with_stack self.old.top (drop 1 self.old.top.stack)) line }
+        ensures below { self.new.below ≡ self.old.below }
+        ensures words { self.new.words ≡ self.old.words }
+        ensures depth { self.new.depth ≡ self.old.depth }
+    {
+        let _word = self.pop();
+        self.top.line = line;
+    }
+
+    /// Writes a word in the place of the upper operand, which may be a text, and goes on at a line.
+    #[inline(always)]
+    #[tactic(auto, using(crate::proofs::Places::upper_written, crate::proofs::Places::locals_below, crate::proofs::Places::rest_below, crate::proofs::Entering::height_is))]
+    pub fn replace_upper(&mut self, word: Word, line: usize)
+        requires { 0 < length self.old.top.stack }
+        ensures top { self.new.top ≡ at_line (with_stack self.old.top (word ∷ drop 1 self.old.top.stack)) line }
+        ensures below { self.new.below ≡ self.old.below }
+        ensures words { self.new.words ≡ self.old.words }
+        ensures depth { self.new.depth ≡ self.old.depth }
+    {
+        let place = self.words.len() - 1;
+        self.words[place] = word;
+        self.top.line = line;
+    }
+
     /// Takes all operands of the newest frame off.
     #[tactic(auto, using(crate::proofs::Places::locals_stay, crate::proofs::Places::no_stack, crate::proofs::Places::rest_stay))]
     pub fn clear(&mut self)

@@ -1,5 +1,6 @@
 -- Stores that fit go on fitting.
 use Rattle.std.proofs.Common.{◌≡◌, ℕ, zero, suc, ◌≤◌, Bool, true, false, nat_le, nat_lt, Option, Some, List, [], ◌∷◌, ◌++◌, length, map, take, drop, insert, remove, refl, ap, sym, subst, arith, slice_get, slice_set, if◌then◌else◌}
+use Rattle.std.proofs.lemmas.Bool.{cond_both}
 use Rattle.pl_types.specs.declared.ty.Ty.{Ty}
 use Rattle.object_values.specs.declared.value.Value.{Value}
 use Rattle.object_values.specs.declared.value.Value.TheVariants as v
@@ -12,8 +13,8 @@ use Rattle.object_values.specs.Values.{is_simple}
 use Rattle.object_values.specs.Pairs.{value_of}
 use Rattle.object_heap.specs.Fits.{kinds, is_map, can_iterate, Typed, Rules, is_element, target_fits, ValueFits, AllFit, PairsFit, KeysFit, AreElements, ObjectFits, ObjectsFit, Fits, ItemFits, PutsFit}
 use Rattle.object_heap.specs.Objects.{Kind, AList, kind_of, may_become, changed, changed_by, with_item, with_inserted, with_all_inserted, with_removed, with_put, with_all_put, with_key_cut, with_pair_cut, with_units, with_spliced, renewed_by, retired_target, retired}
-use Rattle.object_heap.specs.Parts.{object_items, object_pairs, object_captures, items_of, pairs_of, captures_of}
-use Rattle.object_heap.specs.Store.{with_change}
+use Rattle.object_heap.specs.Parts.{object_items, object_pairs, object_captures, frozen_of, items_of, pairs_of, captures_of}
+use Rattle.object_heap.specs.Store.{changed_one, with_change}
 use Rattle.object_heap.proofs.Growth.{cons_changed}
 use Rattle.object_heap.proofs.KindLemmas.{becomes_refl, Follows, follows_refl, follows_more, follows_length, still_passes, is_map_kept, can_iterate_kept, is_element_more, target_more}
 use Rattle.object_heap.proofs.PairLemmas.{distinct_with, distinct_with_all, distinct_without, pairs_with, pairs_with_all, pairs_without, keys_with, keys_with_all, keys_without, distinct_removed, pairs_removed, keys_removed, value_there}
@@ -77,7 +78,7 @@ pub record Keeps (rules : Rules) (objects : List Object) (id : ℕ) (change : Ob
   pub fit : (object : Object) → slice_get objects id ≡ Some object → ObjectFits rules (kinds objects) object → ObjectFits rules (kinds objects) (change object)
 
 follows_changed : (objects : List Object) (id : ℕ) (change : Object → Object) → ((object : Object) → may_become (kind_of object) (kind_of (change object)) ≡ true)
-    → Follows (kinds objects) (kinds (with_change objects id change))
+    → Follows (kinds objects) (kinds (changed_one objects id change))
 follows_changed [] id change h = tt
 follows_changed (x ∷ objects) zero change h = (h x, follows_refl (kinds objects))
 follows_changed (x ∷ objects) (suc id) change h =
@@ -85,18 +86,21 @@ follows_changed (x ∷ objects) (suc id) change h =
 
 each_changed : (rules : Rules) (ks : List Kind) (objects : List Object) (id : ℕ) (change : Object → Object)
     → ((object : Object) → slice_get objects id ≡ Some object → ObjectFits rules ks object → ObjectFits rules ks (change object))
-    → ObjectsFit rules ks objects → ObjectsFit rules ks (with_change objects id change)
+    → ObjectsFit rules ks objects → ObjectsFit rules ks (changed_one objects id change)
 each_changed rules ks [] id change h f = tt
 each_changed rules ks (x ∷ objects) zero change h f = (h x refl f.0, f.1)
 each_changed rules ks (x ∷ objects) (suc id) change h f =
     rw (cons_changed x objects id change (slice_get objects id)) (f.0, each_changed rules ks objects id change h f.1)
 
-pub changed_fits : (rules : Rules) (objects : List Object) (id : ℕ) (change : Object → Object) → Keeps rules objects id change → Fits rules objects → Fits rules (with_change objects id change)
-changed_fits rules objects id change keeps f = record {
+one_fits : (rules : Rules) (objects : List Object) (id : ℕ) (change : Object → Object) → Keeps rules objects id change → Fits rules objects → Fits rules (changed_one objects id change)
+one_fits rules objects id change keeps f = record {
   each =
-      objects_more rules (kinds objects) (kinds (with_change objects id change)) (follows_changed objects id change keeps.kind) (with_change objects id change)
+      objects_more rules (kinds objects) (kinds (changed_one objects id change)) (follows_changed objects id change keeps.kind) (changed_one objects id change)
       (each_changed rules (kinds objects) objects id change keeps.fit f.each);
 }
+
+pub changed_fits : (rules : Rules) (objects : List Object) (id : ℕ) (change : Object → Object) → Keeps rules objects id change → Fits rules objects → Fits rules (with_change objects id change)
+changed_fits rules objects id change keeps f = cond_both (frozen_of objects id) objects (changed_one objects id change) (Fits rules) (λ _. f) (λ _. one_fits rules objects id change keeps f)
 
 -- lists of values
 all_append : (n : ℕ) (values more : List Value) → AllFit n values → AllFit n more → AllFit n (values ++ more)
@@ -125,7 +129,7 @@ elements_set typed ks elem zero value (x ∷ values) h f = (h, f.1)
 elements_set typed ks elem (suc at) value (x ∷ values) h f = (f.0, elements_set typed ks elem at value values h f.1)
 
 -- an item that is written
-item_kind : (at : ℕ) (value : Value) (object : Object) → may_become (kind_of object) (kind_of (with_item at value object)) ≡ true
+pub item_kind : (at : ℕ) (value : Value) (object : Object) → may_become (kind_of object) (kind_of (with_item at value object)) ≡ true
 item_kind at value (o.List class items guard changes) = becomes_refl (kind_of (o.List class items guard changes))
 item_kind at value (o.Array elem items) = becomes_refl (kind_of (o.Array elem items))
 item_kind at value object = becomes_refl (kind_of object)
@@ -147,7 +151,7 @@ put_fits rules objects id at value f h i = changed_fits rules objects id (with_i
 }) f
 
 -- an item that is inserted
-inserted_kind : (at : ℕ) (value : Value) (object : Object) → may_become (kind_of object) (kind_of (with_inserted at value object)) ≡ true
+pub inserted_kind : (at : ℕ) (value : Value) (object : Object) → may_become (kind_of object) (kind_of (with_inserted at value object)) ≡ true
 inserted_kind at value (o.List class items guard changes) =
     elim (nat_le at (length items)) as (λ b. may_become (AList class) (kind_of (if b then o.List class (insert items at value) guard (changed changes) else o.List class items guard changes)) ≡ true)
     [ true ↦ becomes_refl (AList class) | false ↦ becomes_refl (AList class) ]
@@ -169,7 +173,7 @@ grow_fits rules objects id at value f h = changed_fits rules objects id (with_in
 all_counted : (objects : List Object) (values : List Value) → AllFit (length objects) values → AllFit (length (kinds objects)) values
 all_counted objects values h = subst (λ (n : ℕ). AllFit n values) (sym (length-kinds objects)) h
 
-all_inserted_kind : (at : ℕ) (more : List Value) (object : Object) → may_become (kind_of object) (kind_of (with_all_inserted at more object)) ≡ true
+pub all_inserted_kind : (at : ℕ) (more : List Value) (object : Object) → may_become (kind_of object) (kind_of (with_all_inserted at more object)) ≡ true
 all_inserted_kind at more (o.List class items guard changes) =
     elim (nat_le at (length items)) as (λ b. may_become (AList class) (kind_of (if b then o.List class (take at items ++ more ++ drop at items) guard (changed_by changes (length more)) else o.List class items guard changes)) ≡ true)
     [ true ↦ becomes_refl (AList class) | false ↦ becomes_refl (AList class) ]
@@ -188,7 +192,7 @@ extend_fits rules objects id at more f h = changed_fits rules objects id (with_a
 }) f
 
 -- an item that is taken out
-removed_kind : (at : ℕ) (object : Object) → may_become (kind_of object) (kind_of (with_removed at object)) ≡ true
+pub removed_kind : (at : ℕ) (object : Object) → may_become (kind_of object) (kind_of (with_removed at object)) ≡ true
 removed_kind at (o.List class items guard changes) =
     elim (nat_lt at (length items)) as (λ b. may_become (AList class) (kind_of (if b then o.List class (remove items at) guard (changed changes) else o.List class items guard changes)) ≡ true)
     [ true ↦ becomes_refl (AList class) | false ↦ becomes_refl (AList class) ]
@@ -207,7 +211,7 @@ cut_fits rules objects id at f = changed_fits rules objects id (with_removed at)
 }) f
 
 -- a key that is put
-key_put_kind : (key value : Value) (object : Object) → may_become (kind_of object) (kind_of (with_put key value object)) ≡ true
+pub key_put_kind : (key value : Value) (object : Object) → may_become (kind_of object) (kind_of (with_put key value object)) ≡ true
 key_put_kind key value (o.Map class pairs guard changes) = becomes_refl (kind_of (o.Map class pairs guard changes))
 key_put_kind key value (o.Set class items guard changes) = becomes_refl (kind_of (o.Set class items guard changes))
 key_put_kind key value object = becomes_refl (kind_of object)
@@ -226,7 +230,7 @@ map_put_fits rules objects id key value f k h = changed_fits rules objects id (w
 }) f
 
 -- pairs that are put
-all_put_kind : (more : List (Value × Value)) (object : Object) → may_become (kind_of object) (kind_of (with_all_put more object)) ≡ true
+pub all_put_kind : (more : List (Value × Value)) (object : Object) → may_become (kind_of object) (kind_of (with_all_put more object)) ≡ true
 all_put_kind more (o.Map class pairs guard changes) = becomes_refl (kind_of (o.Map class pairs guard changes))
 all_put_kind more (o.Set class items guard changes) = becomes_refl (kind_of (o.Set class items guard changes))
 all_put_kind more object = becomes_refl (kind_of object)
@@ -246,7 +250,7 @@ map_extend_fits rules objects id more f h = changed_fits rules objects id (with_
 }) f
 
 -- a key that is taken out
-key_cut_kind : (key : Value) (object : Object) → may_become (kind_of object) (kind_of (with_key_cut key object)) ≡ true
+pub key_cut_kind : (key : Value) (object : Object) → may_become (kind_of object) (kind_of (with_key_cut key object)) ≡ true
 key_cut_kind key (o.Map class pairs guard changes) = becomes_refl (kind_of (o.Map class pairs guard changes))
 key_cut_kind key (o.Set class items guard changes) = becomes_refl (kind_of (o.Set class items guard changes))
 key_cut_kind key object = becomes_refl (kind_of object)
@@ -263,7 +267,7 @@ map_cut_fits rules objects id key f = changed_fits rules objects id (with_key_cu
 }) f
 
 -- a pair that is taken out by its place
-pair_cut_kind : (at : ℕ) (object : Object) → may_become (kind_of object) (kind_of (with_pair_cut at object)) ≡ true
+pub pair_cut_kind : (at : ℕ) (object : Object) → may_become (kind_of object) (kind_of (with_pair_cut at object)) ≡ true
 pair_cut_kind at (o.Map class pairs guard changes) = becomes_refl (kind_of (o.Map class pairs guard changes))
 pair_cut_kind at (o.Set class items guard changes) = becomes_refl (kind_of (o.Set class items guard changes))
 pair_cut_kind at object = becomes_refl (kind_of object)
@@ -280,7 +284,7 @@ map_cut_at_fits rules objects id at f = changed_fits rules objects id (with_pair
 }) f
 
 -- units at the end of a builder
-units_kind : (more : List ℕ) (object : Object) → may_become (kind_of object) (kind_of (with_units more object)) ≡ true
+pub units_kind : (more : List ℕ) (object : Object) → may_become (kind_of object) (kind_of (with_units more object)) ≡ true
 units_kind more (o.Builder units) = refl
 units_kind more object = becomes_refl (kind_of object)
 
@@ -295,7 +299,7 @@ append_fits rules objects id more f = changed_fits rules objects id (with_units 
 }) f
 
 -- units in the place of others of a builder
-spliced_kind : (from to : ℕ) (more : List ℕ) (object : Object) → may_become (kind_of object) (kind_of (with_spliced from to more object)) ≡ true
+pub spliced_kind : (from to : ℕ) (more : List ℕ) (object : Object) → may_become (kind_of object) (kind_of (with_spliced from to more object)) ≡ true
 spliced_kind from to more (o.Builder units) = refl
 spliced_kind from to more object = becomes_refl (kind_of object)
 

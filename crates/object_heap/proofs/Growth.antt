@@ -12,7 +12,7 @@ use Rattle.object_values.specs.Values.{same_value}
 use Rattle.object_values.specs.Keys.{values_symm}
 use Rattle.object_heap.specs.Objects.{weight_of, with_inserted, insert_growth, with_all_inserted, insert_all_growth, with_put, with_all_put, with_units, units_growth, with_spliced, splice_growth, put_growth, put_all_growth, new_growth, new_key, new_keys, renewed_by, renewal_growth, may_become, kind_of}
 use Rattle.object_heap.specs.Parts.{asked}
-use Rattle.object_heap.specs.Store.{weight, changed_at, with_change}
+use Rattle.object_heap.specs.Store.{weight, changed_at, changed_one}
 use Rattle.object_heap.proofs.PairLemmas.{not_found}
 
 weight-append : (objects : List Object) (object : Object) → weight (objects ++ object ∷ []) ≡ weight objects + weight_of object
@@ -26,7 +26,7 @@ cons_changed x objects id change (Some object) = refl
 -- what a change of one object adds to the weight of them all is what it adds to that one
 pub change_grows : (objects : List Object) (id : ℕ) (change : Object → Object) (growth : Object → ℕ)
     → ((object : Object) → weight_of (change object) - weight_of object ≡ growth object)
-    → weight (with_change objects id change) - weight objects ≡ asked growth 0 (slice_get objects id)
+    → weight (changed_one objects id change) - weight objects ≡ asked growth 0 (slice_get objects id)
 change_grows [] id change growth h = omega arith
 change_grows (x ∷ objects) zero change growth h = omega (arith, h x)
 change_grows (x ∷ objects) (suc id) change growth h =
@@ -38,7 +38,7 @@ inserted_weighs at value (o.List class items guard changes) = grind (arith, nat_
 inserted_weighs at value object = omega arith
 
 pub insert_grows : (objects : List Object) (id at : ℕ) (value : Value)
-    → weight (with_change objects id (with_inserted at value)) - weight objects ≡ asked (insert_growth at) 0 (slice_get objects id)
+    → weight (changed_one objects id (with_inserted at value)) - weight objects ≡ asked (insert_growth at) 0 (slice_get objects id)
 insert_grows objects id at value = change_grows objects id _ _ (inserted_weighs at value)
 
 length-between : (at : ℕ) (items more : List Value) → at ≤ length items → length (take at items ++ more ++ drop at items) ≡ length items + length more
@@ -52,7 +52,7 @@ all_inserted_weighs at more (o.List class items guard changes) = grind (arith, n
 all_inserted_weighs at more object = omega arith
 
 pub insert_all_grows : (objects : List Object) (id at : ℕ) (more : List Value)
-    → weight (with_change objects id (with_all_inserted at more)) - weight objects ≡ asked (insert_all_growth at (length more)) 0 (slice_get objects id)
+    → weight (changed_one objects id (with_all_inserted at more)) - weight objects ≡ asked (insert_all_growth at (length more)) 0 (slice_get objects id)
 insert_all_grows objects id at more = change_grows objects id _ _ (all_inserted_weighs at more)
 
 weight-append_all : (objects more : List Object) → weight (objects ++ more) ≡ weight objects + weight more
@@ -80,7 +80,7 @@ units_weigh more (o.Builder units) = omega (arith, length-append units more)
 units_weigh more object = omega arith
 
 pub append_grows : (objects : List Object) (id : ℕ) (more : List ℕ)
-    → weight (with_change objects id (with_units more)) - weight objects ≡ asked (units_growth (length more)) 0 (slice_get objects id)
+    → weight (changed_one objects id (with_units more)) - weight objects ≡ asked (units_growth (length more)) 0 (slice_get objects id)
 append_grows objects id more = change_grows objects id _ _ (units_weigh more)
 
 length-spliced : (from to : ℕ) (units more : List ℕ) → from ≤ to → to ≤ length units → length (take from units ++ more ++ drop to units) + (to - from) ≡ length units + length more
@@ -93,7 +93,7 @@ spliced_weighs from to more (o.Builder units) = grind (arith, nat_tests, length-
 spliced_weighs from to more object = omega arith
 
 pub splice_grows : (objects : List Object) (id from to : ℕ) (more : List ℕ)
-    → weight (with_change objects id (with_spliced from to more)) - weight objects ≡ asked (splice_growth from to (length more)) 0 (slice_get objects id)
+    → weight (changed_one objects id (with_spliced from to more)) - weight objects ≡ asked (splice_growth from to (length more)) 0 (slice_get objects id)
 splice_grows objects id from to more = change_grows objects id _ _ (spliced_weighs from to more)
 
 length-with_pair : (pairs : List (Value × Value)) (key value : Value) → length (with_pair pairs key value) ≡ length pairs + new_growth (value_of pairs key) 1
@@ -113,7 +113,7 @@ put_weighs key value (o.Set class items guard changes) = omega (arith, length-wi
 put_weighs key value object = omega arith
 
 pub put_grows : (objects : List Object) (id : ℕ) (key value : Value)
-    → weight (with_change objects id (with_put key value)) - weight objects ≡ asked (put_growth key) 0 (slice_get objects id)
+    → weight (changed_one objects id (with_put key value)) - weight objects ≡ asked (put_growth key) 0 (slice_get objects id)
 put_grows objects id key value = change_grows objects id _ _ (put_weighs key value)
 
 -- a put changes nothing of whether another key is there
@@ -151,7 +151,7 @@ put_all_weighs more d (o.Set class items guard changes) = omega (arith, length-w
 put_all_weighs more d object = omega arith
 
 pub put_all_grows : (objects : List Object) (id : ℕ) (more : List (Value × Value)) → HasDistinctKeys more
-    → weight (with_change objects id (with_all_put more)) - weight objects ≡ asked (put_all_growth more) 0 (slice_get objects id)
+    → weight (changed_one objects id (with_all_put more)) - weight objects ≡ asked (put_all_growth more) 0 (slice_get objects id)
 put_all_grows objects id more d = change_grows objects id _ _ (put_all_weighs more d)
 
 -- the new keys from a place on are the one there and those behind it
@@ -178,5 +178,5 @@ renewal_weighs after object =
     [ true ↦ refl | false ↦ omega arith ]
 
 pub renewal_grows : (objects : List Object) (id : ℕ) (after : Object)
-    → weight (with_change objects id (renewed_by after)) - weight objects ≡ asked (renewal_growth after) 0 (slice_get objects id)
+    → weight (changed_one objects id (renewed_by after)) - weight objects ≡ asked (renewal_growth after) 0 (slice_get objects id)
 renewal_grows objects id after = change_grows objects id _ _ (renewal_weighs after)

@@ -1,4 +1,5 @@
 pub mod Fitting
+pub mod Fronting
 pub mod Growth
 pub mod Keeping
 pub mod KindLemmas

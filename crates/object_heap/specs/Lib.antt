@@ -1,5 +1,6 @@
 pub mod Effects
 pub mod Fits
+pub mod Fronts
 pub mod Laws
 pub mod Objects
 pub mod Parts

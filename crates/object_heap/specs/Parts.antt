@@ -1,5 +1,5 @@
 -- The parts of objects. What an object does not have is empty or nothing, so each question has an answer.
-use Rattle.std.specs.Prelude.{ℕ, Bool, true, false, Option, Some, None, List, [], length, slice_get}
+use Rattle.std.specs.Prelude.{◌≡◌, ℕ, Bool, true, false, Option, Some, None, List, [], ◌∷◌, length, slice_get, if◌then◌else◌}
 use Rattle.pl_types.specs.declared.ty.Ty.{Ty}
 use Rattle.object_values.specs.declared.value.Value.{Value}
 use Rattle.object_values.specs.declared.object.Object.{Object}
@@ -65,6 +65,11 @@ is_closed (Some g.Mapped) = true
 
 abbrev pub is_frozen : Object → Bool
 is_frozen object = is_closed (object_guard object)
+
+-- nothing may change any of these
+abbrev pub AreFrozen : List Object → Type 0
+AreFrozen [] = Unit {0}
+AreFrozen (object ∷ objects) = (is_frozen object ≡ true) × AreFrozen objects
 
 -- the change count of a list, a map or a set
 abbrev pub object_changes : Object → ℕ
@@ -151,3 +156,17 @@ target_of objects id = asked object_target None (slice_get objects id)
 
 abbrev pub captures_of : List Object → ℕ → List Value
 captures_of objects id = asked object_captures [] (slice_get objects id)
+
+-- the object of this number, if it is not frozen
+abbrev pub open_at : List Object → ℕ → Option Object
+open_at objects id = if frozen_of objects id then None else slice_get objects id
+
+-- what may be taken out or written over: nothing of what is frozen
+abbrev pub open_items_of : List Object → ℕ → List Value
+open_items_of objects id = if frozen_of objects id then [] else items_of objects id
+
+abbrev pub open_list_items_of : List Object → ℕ → List Value
+open_list_items_of objects id = if frozen_of objects id then [] else list_items_of objects id
+
+abbrev pub open_pairs_of : List Object → ℕ → List (Value × Value)
+open_pairs_of objects id = if frozen_of objects id then [] else pairs_of objects id

@@ -2,6 +2,7 @@
 use Rattle.std.specs.Prelude.{ℕ, ◌+◌, ◌-◌, nat_le, Option, Some, None, List, [], ◌∷◌, slice_get, slice_set, if◌then◌else◌}
 use Rattle.object_values.specs.declared.object.Object.{Object}
 use Rattle.object_heap.specs.Objects.{weight_of}
+use Rattle.object_heap.specs.Parts.{frozen_of}
 
 pub record Store : Type 0 where
   pub objects : List Object
@@ -28,5 +29,9 @@ abbrev pub changed_at : List Object → ℕ → (Object → Object) → Option O
 changed_at objects id change None = objects
 changed_at objects id change (Some object) = slice_set objects id (change object)
 
+abbrev pub changed_one : List Object → ℕ → (Object → Object) → List Object
+changed_one objects id change = changed_at objects id change (slice_get objects id)
+
+-- the same, where nothing changes what is frozen
 abbrev pub with_change : List Object → ℕ → (Object → Object) → List Object
-with_change objects id change = changed_at objects id change (slice_get objects id)
+with_change objects id change = if frozen_of objects id then objects else changed_one objects id change

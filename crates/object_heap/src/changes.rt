@@ -1,24 +1,50 @@
 //! Changes of one object. What a change does not apply to stays as it is.
-ghost use Rattle.std.specs.Prelude.{◌≡◌, ◌-◌, length, IfOk, OnOk, OnErr, slice_get, remove};
+ghost use Rattle.std.specs.Prelude.{◌≡◌, ◌-◌, [], ◌∷◌, ◌++◌, length, IfOk, OnOk, OnErr, slice_get, remove};
 ghost use Rattle.object_values.specs.Pairs.{value_of, with_pair, with_pairs, without_key};
 ghost use Rattle.object_heap.specs.Objects.{changed_by, with_inserted, with_all_inserted, with_item, with_removed, with_put, with_all_put, with_key_cut, with_pair_cut, with_units, with_spliced, spliced, put_counted, cut_counted, pair_counted};
 ghost use Rattle.object_heap.specs.Parts.{object_items, list_items, object_pairs, items_of, list_items_of, pairs_of};
-ghost use Rattle.object_heap.specs.Store.{with_change};
+ghost use Rattle.object_heap.specs.Store.{changed_one};
 
 use object_values::{Elements, Object, Pairs, Value};
 use std::alloc::AllocError;
 
+/// Adds an object behind the others.
+pub fn push_object(objects: &mut Vec<Object>, object: Object) -> Result<(), AllocError>
+    ensures ok { OnOk result (objects.new.items ≡ objects.old.items ++ object ∷ []) }
+    ensures err { OnErr result (objects.new.items ≡ objects.old.items) }
+{
+    match objects.push(object) {
+        Ok(()) => Ok(()),
+        Err(refused) => {
+            drop(refused);
+            Err(AllocError)
+        }
+    }
+}
+
+/// Adds objects behind the others.
+pub fn append_objects(objects: &mut Vec<Object>, more: Elements<Object>) -> Result<(), AllocError>
+    ensures ok { OnOk result (objects.new.items ≡ objects.old.items ++ more) }
+    ensures err { OnErr result (objects.new.items ≡ objects.old.items) }
+{
+    let mut more = more.into_vec();
+    match objects.append(&mut more) {
+        Ok(()) => Ok(()),
+        Err(_) => Err(AllocError),
+    }
+}
+
 /// Inserts an item into a list.
 pub fn insert_item(
     objects: &mut Vec<Object>,
-    id: u32,
+    id: usize,
     at: usize,
     value: Value,
 ) -> Result<(), AllocError>
-    ensures ok { OnOk result (objects.new.items ≡ with_change objects.old.items id (with_inserted at value)) }
+    ensures ok { OnOk result (objects.new.items ≡ changed_one objects.old.items id (with_inserted at value)) }
     ensures err { OnErr result (objects.new.items ≡ objects.old.items) }
 {
-    match objects.get_mut(id as usize) {
+    match objects.get_mut(id) {
         Some(object) => insert_into(object, at, value),
         None => {
             drop(value);
@@ -51,14 +77,14 @@ fn insert_into(object: &mut Object, at: usize, value: Value) -> Result<(), Alloc
 /// Inserts items into a list, in their order.
 pub fn insert_items(
     objects: &mut Vec<Object>,
-    id: u32,
+    id: usize,
     at: usize,
     more: Elements<Value>,
 ) -> Result<(), AllocError>
-    ensures ok { OnOk result (objects.new.items ≡ with_change objects.old.items id (with_all_inserted at more)) }
+    ensures ok { OnOk result (objects.new.items ≡ changed_one objects.old.items id (with_all_inserted at more)) }
     ensures err { OnErr result (objects.new.items ≡ objects.old.items) }
 {
-    match objects.get_mut(id as usize) {
+    match objects.get_mut(id) {
         Some(object) => insert_all_into(object, at, more),
         None => {
             drop(more);
@@ -90,11 +116,11 @@ fn insert_all_into(object: &mut Object, at: usize, more: Elements<Value>) -> Res
 }
 
 /// Writes an item of a list or an array.
-pub fn put_item(objects: &mut Vec<Object>, id: u32, at: usize, value: Value) -> Option<Value>
+pub fn put_item(objects: &mut Vec<Object>, id: usize, at: usize, value: Value) -> Option<Value>
     ensures before { result ≡ slice_get (items_of objects.old.items id) at }
-    ensures written { objects.new.items ≡ with_change objects.old.items id (with_item at value) }
+    ensures written { objects.new.items ≡ changed_one objects.old.items id (with_item at value) }
 {
-    match objects.get_mut(id as usize) {
+    match objects.get_mut(id) {
         Some(object) => put_into(object, at, value),
         None => {
             drop(value);
@@ -118,11 +144,11 @@ fn put_into(object: &mut Object, at: usize, value: Value) -> Option<Value>
 }
 
 /// Takes an item out of a list.
-pub fn cut_item(objects: &mut Vec<Object>, id: u32, at: usize) -> Option<Value>
+pub fn cut_item(objects: &mut Vec<Object>, id: usize, at: usize) -> Option<Value>
     ensures item { result ≡ slice_get (list_items_of objects.old.items id) at }
-    ensures rest { objects.new.items ≡ with_change objects.old.items id (with_removed at) }
+    ensures rest { objects.new.items ≡ changed_one objects.old.items id (with_removed at) }
 {
-    match objects.get_mut(id as usize) {
+    match objects.get_mut(id) {
         Some(object) => cut_from(object, at),
         None => None,
     }
@@ -144,15 +170,15 @@ fn cut_from(object: &mut Object, at: usize) -> Option<Value>
 /// Puts a value under a key of a map, or a key into a set.
 pub fn put_key(
     objects: &mut Vec<Object>,
-    id: u32,
+    id: usize,
     key: Value,
     value: Value,
 ) -> Result<Option<Value>, AllocError>
     ensures before { IfOk result (λ before. before ≡ value_of (pairs_of objects.old.items id) key) }
-    ensures ok { OnOk result (objects.new.items ≡ with_change objects.old.items id (with_put key value)) }
+    ensures ok { OnOk result (objects.new.items ≡ changed_one objects.old.items id (with_put key value)) }
     ensures err { OnErr result (objects.new.items ≡ objects.old.items) }
 {
-    match objects.get_mut(id as usize) {
+    match objects.get_mut(id) {
         Some(object) => put_key_into(object, key, value),
         None => {
             drop(key);
@@ -205,11 +231,11 @@ fn put_pair(
 }
 
 /// Puts pairs into a map or a set, in their order.
-pub fn put_pairs(objects: &mut Vec<Object>, id: u32, more: Pairs) -> Result<(), AllocError>
-    ensures ok { OnOk result (objects.new.items ≡ with_change objects.old.items id (with_all_put more)) }
+pub fn put_pairs(objects: &mut Vec<Object>, id: usize, more: Pairs) -> Result<(), AllocError>
+    ensures ok { OnOk result (objects.new.items ≡ changed_one objects.old.items id (with_all_put more)) }
     ensures err { OnErr result (objects.new.items ≡ objects.old.items) }
 {
-    match objects.get_mut(id as usize) {
+    match objects.get_mut(id) {
         Some(object) => put_all_into(object, more),
         None => {
             drop(more);
@@ -247,11 +273,11 @@ fn append_counted(pairs: &mut Pairs, changes: &mut u64, more: Pairs) -> Result<(
 }
 
 /// Takes a key out of a map or a set.
-pub fn cut_key(objects: &mut Vec<Object>, id: u32, key: &Value) -> Option<Value>
+pub fn cut_key(objects: &mut Vec<Object>, id: usize, key: &Value) -> Option<Value>
     ensures before { result ≡ value_of (pairs_of objects.old.items id) key.now }
-    ensures rest { objects.new.items ≡ with_change objects.old.items id (with_key_cut key.now) }
+    ensures rest { objects.new.items ≡ changed_one objects.old.items id (with_key_cut key.now) }
 {
-    match objects.get_mut(id as usize) {
+    match objects.get_mut(id) {
         Some(object) => cut_key_from(object, key),
         None => None,
     }
@@ -269,11 +295,11 @@ fn cut_key_from(object: &mut Object, key: &Value) -> Option<Value>
 }
 
 /// Takes the pair at a place out of a map or a set.
-pub fn cut_pair_at(objects: &mut Vec<Object>, id: u32, at: usize) -> Option<(Value, Value)>
+pub fn cut_pair_at(objects: &mut Vec<Object>, id: usize, at: usize) -> Option<(Value, Value)>
     ensures pair { result ≡ slice_get (pairs_of objects.old.items id) at }
-    ensures rest { objects.new.items ≡ with_change objects.old.items id (with_pair_cut at) }
+    ensures rest { objects.new.items ≡ changed_one objects.old.items id (with_pair_cut at) }
 {
-    match objects.get_mut(id as usize) {
+    match objects.get_mut(id) {
         Some(object) => cut_pair_from(object, at),
         None => None,
     }
@@ -306,11 +332,11 @@ fn remove_pair(pairs: &mut Pairs, changes: &mut u64, at: usize) -> Option<(Value
 }
 
 /// Writes units at the end of a builder.
-pub fn append_units(objects: &mut Vec<Object>, id: u32, units: &[u16]) -> Result<(), AllocError>
-    ensures ok { OnOk result (objects.new.items ≡ with_change objects.old.items id (with_units units.now)) }
+pub fn append_units(objects: &mut Vec<Object>, id: usize, units: &[u16]) -> Result<(), AllocError>
+    ensures ok { OnOk result (objects.new.items ≡ changed_one objects.old.items id (with_units units.now)) }
     ensures err { OnErr result (objects.new.items ≡ objects.old.items) }
 {
-    match objects.get_mut(id as usize) {
+    match objects.get_mut(id) {
         Some(object) => append_to(object, units),
         None => Ok(()),
     }
@@ -329,15 +355,15 @@ fn append_to(object: &mut Object, more: &[u16]) -> Result<(), AllocError>
 /// Puts units in the place of those of a builder from one place up to another.
 pub fn splice_units(
     objects: &mut Vec<Object>,
-    id: u32,
+    id: usize,
     from: usize,
     to: usize,
     units: &[u16],
 ) -> Result<(), AllocError>
-    ensures ok { OnOk result (objects.new.items ≡ with_change objects.old.items id (with_spliced from to units.now)) }
+    ensures ok { OnOk result (objects.new.items ≡ changed_one objects.old.items id (with_spliced from to units.now)) }
     ensures err { OnErr result (objects.new.items ≡ objects.old.items) }
 {
-    match objects.get_mut(id as usize) {
+    match objects.get_mut(id) {
         Some(object) => splice_in(object, from, to, units),
         None => Ok(()),
     }

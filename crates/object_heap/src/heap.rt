@@ -1,14 +1,15 @@
 //! The heap, and what each operation on it changes and costs.
-ghost use Rattle.std.specs.Prelude.{◌≡◌, Some, None, [], ◌∷◌, ◌++◌, length, map, IfErr, IfOk, OnOk, OnErr, slice_get};
+ghost use Rattle.std.specs.Prelude.{◌≡◌, Some, None, [], ◌∷◌, ◌++◌, length, map, IfErr, IfOk, IfSome, OnOk, OnErr, slice_get};
 ghost use Rattle.std.specs.Option.{option_copied};
 
 use crate::changes::{
-    append_units, cut_item, cut_key, cut_pair_at, insert_item, insert_items, put_item, put_key,
-    put_pairs, splice_units,
+    append_objects, append_units, cut_item, cut_key, cut_pair_at, insert_item, insert_items,
+    push_object, put_item, put_key, put_pairs, splice_units,
 };
 use crate::error::HeapErr;
+use crate::front::{Front, found, open_place};
 use crate::parts;
-use crate::renewal::{renew_at, renewal_growth_at, retire_all};
+use crate::renewal::{renew_at, renewal_growth_at, retire_behind, still_retired};
 use crate::weights::{
     all_within, insert_all_growth, insert_growth, put_all_growth, put_growth, splice_growth,
     units_growth, weight_within,
@@ -26,9 +27,15 @@ use std::marker::Model;
 /// does not apply changes nothing. A call that is paid takes the growth of the heap's weight from the room, and nothing where
 /// it shrinks.
 ///
+/// A heap may have frozen objects in front, which it has in common with others (`Front`): their numbers come first. Nothing changes what is
+/// frozen: a change of it changes nothing, costs nothing and gives nothing.
+///
 /// A heap has a seed, by which maps and sets hash their keys, so that nobody who chooses keys can choose ones that collide.
 pub struct Heap {
+    front: Front,
     objects: Vec<Object>,
+    // So many of these objects have no lambda of a script.
+    settled: usize,
     room: u64,
     seed: Seed,
 }
@@ -37,18 +44,24 @@ impl Model for Heap {
     ghost use Rattle.object_heap.specs.Store.{Store};
     ghost use Rattle.pl_types.specs.contracts.ty.Ty as ty;
     ghost use Rattle.std.specs.Coded.{codes};
+    ghost use Rattle.std.specs.Prelude.{◌++◌};
+    ghost use Rattle.object_heap.specs.Fronts.{AreRetired};
 
     ghost Value = { Store };
 
     ghost coded = { Prim.hlevel (codes, ty.the_row.coded) };
 
-    ghost view = { λ h. record { objects = h.objects.items; room = h.room } };
+    ghost view = { λ h. record { objects = h.front ++ h.objects.items; room = h.room } };
+
+    ghost invariant = { λ h. AreRetired h.settled h.objects.items };
 }
 
 impl Drop for Heap {
     fn drop(self) {
         let Heap {
+            front: _front,
             objects: _objects,
+            settled: _settled,
             room: _room,
             seed: _seed,
         } = self;
@@ -58,20 +71,54 @@ impl Drop for Heap {
 impl Heap {
     ghost use Rattle.object_values.specs.Pairs.{value_of, key_at, pair_value_at};
     ghost use Rattle.object_heap.specs.Objects.{with_item, with_inserted, with_all_inserted, with_removed, with_put, with_all_put, with_key_cut, with_pair_cut, with_units, with_spliced, renewed_by, retired};
-    ghost use Rattle.object_heap.specs.Parts.{items_of, list_items_of, map_of, pairs_of, size_of, class_of, guard_of, frozen_of, changes_of, units_of, elem_of, message_of, iface_of, target_of, captures_of};
+    ghost use Rattle.object_heap.specs.Parts.{AreFrozen, items_of, open_items_of, open_list_items_of, open_pairs_of, map_of, pairs_of, size_of, class_of, guard_of, frozen_of, changes_of, units_of, elem_of, message_of, iface_of, target_of, captures_of};
     ghost use Rattle.object_heap.specs.Store.{with_change};
     ghost use Rattle.object_heap.specs.Paying.{Pays, PaysSurely};
-    ghost use Rattle.object_heap.specs.declared.error.HeapErr.TheVariants.{Room};
+    ghost use Rattle.object_heap.specs.declared.error.HeapErr.TheVariants.{Room, NoMemory};
 
     /// No objects, and this much room. The seed is for the maps and sets that are made here. It takes no memory.
     pub fn new(alloc: Global, room: u64, seed: Seed) -> Heap
         ensures { result ≡ record { objects = []; room = room } }
     {
+        Heap::over(Front::none(), alloc, room, seed)
+    }
+
+    /// These objects in front, and this much room. It takes no memory, and nothing from the room.
+    #[tactic(auto, using(crate::proofs::Fronting::nothing_behind))]
+    pub fn over(front: Front, alloc: Global, room: u64, seed: Seed) -> Heap
+        ensures { result ≡ record { objects = front; room = room } }
+    {
         Heap {
+            front,
             objects: Vec::new(alloc),
+            settled: 0,
             room,
             seed,
         }
+    }
+
+    /// The objects, as what other heaps have in front.
+    ///
+    /// # Errors
+    ///
+    /// Want of memory.
+    #[tactic(auto, using(crate::proofs::Fronting::nothing_in_front))]
+    pub fn into_front(self) -> Result<Option<Front>, AllocError>
+        requires { AreFrozen self.objects }
+        ensures { IfOk result (λ found. IfSome found (λ front. front ≡ self.objects)) }
+    {
+        let Heap {
+            front,
+            objects,
+            settled: _settled,
+            room: _room,
+            seed: _seed,
+        } = self;
+        if front.len() > 0 {
+            return Ok(None);
+        }
+        let alloc = *objects.allocator();
+        Ok(Some(Front::of(alloc, objects)?))
     }
 
     /// The allocator that its objects take their memory from.
@@ -95,21 +142,22 @@ impl Heap {
     pub fn len(&self) -> usize
         ensures { result ≡ length self.now.objects }
     {
-        self.objects.len()
+        self.front.len() + self.objects.len()
     }
 
     /// The object of this number.
     pub fn get(&self, id: u32) -> Option<&Object>
         ensures { option_copied result ≡ slice_get self.now.objects id }
     {
-        self.objects.get(id as usize)
+        found(&self.front, self.objects.as_slice(), id)
     }
 
-    /// Gives this much room, and every lambda of a script is gone: the script has ended, and another run is to start here.
+    /// Gives this much room, and every lambda of a script is gone: the script has ended, and another run is to start here. It takes the
+    /// time of the objects that came since the last time.
     pub fn refill(&mut self, room: u64)
         ensures { self.new ≡ record { objects = map retired self.old.objects; room = room } }
     {
-        retire_all(&mut self.objects);
+        self.settled = retire_behind(&self.front, &mut self.objects, self.settled);
         self.room = room;
     }
 
@@ -132,16 +180,13 @@ impl Heap {
         ensures number { IfOk result (λ id. id ≡ length self.old.objects) }
         ensures err { OnErr result (self.new ≡ self.old) }
     {
-        let Ok(id) = u32::try_from(self.objects.len()) else {
+        let Ok(id) = u32::try_from(self.len()) else {
             drop(object);
             return Err(AllocError);
         };
-        match self.objects.push(object) {
+        match push_object(&mut self.objects, object) {
             Ok(()) => Ok(id),
-            Err(refused) => {
-                drop(refused);
-                Err(AllocError)
-            }
+            Err(_) => Err(AllocError),
         }
     }
 
@@ -165,7 +210,7 @@ impl Heap {
     }
 
     /// Adds objects, whose numbers count on from those before them.
-    #[tactic(auto, using(crate::proofs::Paying::paid_if, crate::proofs::Paying::paid_not, crate::proofs::Growth::all_grow))]
+    #[tactic(auto, using(crate::proofs::Paying::paid_if, crate::proofs::Paying::paid_not, crate::proofs::Growth::all_grow, crate::proofs::Fronting::pays_more))]
     pub fn add_all(&mut self, more: Elements<Object>) -> Result<(), HeapErr>
         ensures { Pays self.old self.new (self.old.objects ++ more) 0 result }
     {
@@ -173,8 +218,7 @@ impl Heap {
             drop(more);
             return Err(HeapErr::Room);
         };
-        let mut more = more.into_vec();
-        match self.objects.append(&mut more) {
+        match append_objects(&mut self.objects, more) {
             Ok(()) => {
                 self.room -= growth;
                 Ok(())
@@ -190,22 +234,31 @@ impl Heap {
     pub fn renew(&mut self, id: u32, object: Object) -> bool
         ensures { PaysSurely self.old self.new (with_change self.old.objects id (renewed_by object)) 0 result }
     {
-        let growth = renewal_growth_at(self.objects.as_slice(), id, &object);
+        let Some(place) = open_place(&self.front, self.objects.as_slice(), id) else {
+            drop(object);
+            return true;
+        };
+        let growth = renewal_growth_at(self.objects.as_slice(), place, &object);
         if growth > self.room {
             drop(object);
             return false;
         }
-        renew_at(&mut self.objects, id, object);
+        self.settled = still_retired(self.settled, place, &object);
+        renew_at(&mut self.objects, place, object);
         self.room -= growth;
         true
     }
 
     /// Writes an item of a list or an array, and gives the one that stood there. It takes no memory.
     pub fn put(&mut self, id: u32, at: usize, value: Value) -> Option<Value>
-        ensures before { result ≡ slice_get (items_of self.old.objects id) at }
+        ensures before { result ≡ slice_get (open_items_of self.old.objects id) at }
         ensures written { self.new ≡ record self.old { objects = with_change self.old.objects id (with_item at value) } }
     {
-        put_item(&mut self.objects, id, at, value)
+        let Some(place) = open_place(&self.front, self.objects.as_slice(), id) else {
+            drop(value);
+            return None;
+        };
+        put_item(&mut self.objects, place, at, value)
     }
 
     /// Inserts an item into a list, at a place up to its size.
@@ -213,12 +266,16 @@ impl Heap {
     pub fn grow(&mut self, id: u32, at: usize, value: Value) -> Result<(), HeapErr>
         ensures { Pays self.old self.new (with_change self.old.objects id (with_inserted at value)) 0 result }
     {
-        let growth = insert_growth(self.objects.as_slice(), id, at);
+        let Some(place) = open_place(&self.front, self.objects.as_slice(), id) else {
+            drop(value);
+            return Ok(());
+        };
+        let growth = insert_growth(self.objects.as_slice(), place, at);
         if growth > self.room {
             drop(value);
             return Err(HeapErr::Room);
         }
-        match insert_item(&mut self.objects, id, at, value) {
+        match insert_item(&mut self.objects, place, at, value) {
             Ok(()) => {
                 self.room -= growth;
                 Ok(())
@@ -233,12 +290,16 @@ impl Heap {
     pub fn extend(&mut self, id: u32, at: usize, more: Elements<Value>) -> Result<(), HeapErr>
         ensures { Pays self.old self.new (with_change self.old.objects id (with_all_inserted at more)) 0 result }
     {
-        let growth = insert_all_growth(self.objects.as_slice(), id, at, more.len());
+        let Some(place) = open_place(&self.front, self.objects.as_slice(), id) else {
+            drop(more);
+            return Ok(());
+        };
+        let growth = insert_all_growth(self.objects.as_slice(), place, at, more.len());
         if growth > self.room {
             drop(more);
             return Err(HeapErr::Room);
         }
-        match insert_items(&mut self.objects, id, at, more) {
+        match insert_items(&mut self.objects, place, at, more) {
             Ok(()) => {
                 self.room -= growth;
                 Ok(())
@@ -249,10 +310,13 @@ impl Heap {
 
     /// Takes an item out of a list, and gives it; those behind it move up. It takes no memory.
     pub fn cut(&mut self, id: u32, at: usize) -> Option<Value>
-        ensures item { result ≡ slice_get (list_items_of self.old.objects id) at }
+        ensures item { result ≡ slice_get (open_list_items_of self.old.objects id) at }
         ensures rest { self.new ≡ record self.old { objects = with_change self.old.objects id (with_removed at) } }
     {
-        cut_item(&mut self.objects, id, at)
+        let Some(place) = open_place(&self.front, self.objects.as_slice(), id) else {
+            return None;
+        };
+        cut_item(&mut self.objects, place, at)
     }
 
     /// The value of a key of a map, or null of a key of a set. It takes no memory.
@@ -265,6 +329,20 @@ impl Heap {
         }
     }
 
+    // The value of a key of a map, or null of a key of a set, once more.
+    fn value_under(&self, id: u32, key: Value) -> Result<Option<Value>, HeapErr>
+        ensures value { IfOk result (λ value. value ≡ value_of (pairs_of self.now.objects id) key) }
+        ensures memory { IfErr result (λ e. e ≡ NoMemory) }
+    {
+        match self.map_get(id, &key) {
+            Some(value) => match value.share() {
+                Ok(value) => Ok(Some(value)),
+                Err(_) => Err(HeapErr::NoMemory),
+            },
+            None => Ok(None),
+        }
+    }
+
     #[tactic(auto, using(crate::proofs::Paying::paid_if, crate::proofs::Paying::paid_not, crate::proofs::Growth::put_grows))]
     /// Puts a value under a key of a map, or a key into a set, and gives the value that the key had. A new key goes last, and
     /// one that is there keeps its place. The values of a set are null, whatever value is given.
@@ -272,13 +350,17 @@ impl Heap {
         ensures before { IfOk result (λ before. before ≡ value_of (pairs_of self.old.objects id) key) }
         ensures pays { Pays self.old self.new (with_change self.old.objects id (with_put key value)) 0 result }
     {
-        let growth = put_growth(self.objects.as_slice(), id, &key);
+        let Some(place) = open_place(&self.front, self.objects.as_slice(), id) else {
+            drop(value);
+            return self.value_under(id, key);
+        };
+        let growth = put_growth(self.objects.as_slice(), place, &key);
         if growth > self.room {
             drop(key);
             drop(value);
             return Err(HeapErr::Room);
         }
-        match put_key(&mut self.objects, id, key, value) {
+        match put_key(&mut self.objects, place, key, value) {
             Ok(before) => {
                 self.room -= growth;
                 Ok(before)
@@ -293,12 +375,16 @@ impl Heap {
     pub fn map_extend(&mut self, id: u32, more: Pairs) -> Result<(), HeapErr>
         ensures { Pays self.old self.new (with_change self.old.objects id (with_all_put more)) 0 result }
     {
-        let growth = put_all_growth(self.objects.as_slice(), id, &more);
+        let Some(place) = open_place(&self.front, self.objects.as_slice(), id) else {
+            drop(more);
+            return Ok(());
+        };
+        let growth = put_all_growth(self.objects.as_slice(), place, &more);
         if growth > self.room {
             drop(more);
             return Err(HeapErr::Room);
         }
-        match put_pairs(&mut self.objects, id, more) {
+        match put_pairs(&mut self.objects, place, more) {
             Ok(()) => {
                 self.room -= growth;
                 Ok(())
@@ -309,18 +395,24 @@ impl Heap {
 
     /// Takes a key out of a map or a set, and gives the value that it had; the pairs behind it move up. It takes no memory.
     pub fn map_cut(&mut self, id: u32, key: &Value) -> Option<Value>
-        ensures before { result ≡ value_of (pairs_of self.old.objects id) key.now }
+        ensures before { result ≡ value_of (open_pairs_of self.old.objects id) key.now }
         ensures rest { self.new ≡ record self.old { objects = with_change self.old.objects id (with_key_cut key.now) } }
     {
-        cut_key(&mut self.objects, id, key)
+        let Some(place) = open_place(&self.front, self.objects.as_slice(), id) else {
+            return None;
+        };
+        cut_key(&mut self.objects, place, key)
     }
 
     /// Takes the pair at a place out of a map or a set, and gives it; those behind it move up. It takes no memory.
     pub fn map_cut_at(&mut self, id: u32, at: usize) -> Option<(Value, Value)>
-        ensures pair { result ≡ slice_get (pairs_of self.old.objects id) at }
+        ensures pair { result ≡ slice_get (open_pairs_of self.old.objects id) at }
         ensures rest { self.new ≡ record self.old { objects = with_change self.old.objects id (with_pair_cut at) } }
     {
-        cut_pair_at(&mut self.objects, id, at)
+        let Some(place) = open_place(&self.front, self.objects.as_slice(), id) else {
+            return None;
+        };
+        cut_pair_at(&mut self.objects, place, at)
     }
 
     /// Writes units at the end of a builder.
@@ -328,11 +420,14 @@ impl Heap {
     pub fn append(&mut self, id: u32, units: &[u16]) -> Result<(), HeapErr>
         ensures { Pays self.old self.new (with_change self.old.objects id (with_units units.now)) 0 result }
     {
-        let growth = units_growth(self.objects.as_slice(), id, units.len());
+        let Some(place) = open_place(&self.front, self.objects.as_slice(), id) else {
+            return Ok(());
+        };
+        let growth = units_growth(self.objects.as_slice(), place, units.len());
         if growth > self.room {
             return Err(HeapErr::Room);
         }
-        match append_units(&mut self.objects, id, units) {
+        match append_units(&mut self.objects, place, units) {
             Ok(()) => {
                 self.room -= growth;
                 Ok(())
@@ -353,11 +448,14 @@ impl Heap {
     ) -> Result<(), HeapErr>
         ensures { Pays self.old self.new (with_change self.old.objects id (with_spliced from to units.now)) 0 result }
     {
-        let growth = splice_growth(self.objects.as_slice(), id, from, to, units.len());
+        let Some(place) = open_place(&self.front, self.objects.as_slice(), id) else {
+            return Ok(());
+        };
+        let growth = splice_growth(self.objects.as_slice(), place, from, to, units.len());
         if growth > self.room {
             return Err(HeapErr::Room);
         }
-        match splice_units(&mut self.objects, id, from, to, units) {
+        match splice_units(&mut self.objects, place, from, to, units) {
             Ok(()) => {
                 self.room -= growth;
                 Ok(())
@@ -370,7 +468,7 @@ impl Heap {
     pub fn items(&self, id: u32) -> &[Value]
         ensures { result.now ≡ items_of self.now.objects id }
     {
-        match self.objects.get(id as usize) {
+        match self.get(id) {
             Some(object) => parts::items(object),
             None => &[],
         }
@@ -380,7 +478,7 @@ impl Heap {
     pub fn pairs(&self, id: u32) -> Option<&Pairs>
         ensures { option_copied result ≡ map_of self.now.objects id }
     {
-        match self.objects.get(id as usize) {
+        match self.get(id) {
             Some(object) => parts::pairs(object),
             None => None,
         }
@@ -410,7 +508,7 @@ impl Heap {
     pub fn size(&self, id: u32) -> usize
         ensures { result ≡ size_of self.now.objects id }
     {
-        match self.objects.get(id as usize) {
+        match self.get(id) {
             Some(object) => parts::size(object),
             None => 0,
         }
@@ -420,7 +518,7 @@ impl Heap {
     pub fn class(&self, id: u32) -> Option<u32>
         ensures { result ≡ class_of self.now.objects id }
     {
-        match self.objects.get(id as usize) {
+        match self.get(id) {
             Some(object) => parts::class(object),
             None => None,
         }
@@ -430,7 +528,7 @@ impl Heap {
     pub fn guard(&self, id: u32) -> Option<&Guard>
         ensures { option_copied result ≡ guard_of self.now.objects id }
     {
-        match self.objects.get(id as usize) {
+        match self.get(id) {
             Some(object) => parts::guard(object),
             None => None,
         }
@@ -440,7 +538,7 @@ impl Heap {
     pub fn is_frozen(&self, id: u32) -> bool
         ensures { result ≡ frozen_of self.now.objects id }
     {
-        match self.objects.get(id as usize) {
+        match self.get(id) {
             Some(object) => parts::is_frozen(object),
             None => false,
         }
@@ -451,7 +549,7 @@ impl Heap {
     pub fn changes(&self, id: u32) -> u64
         ensures { result ≡ changes_of self.now.objects id }
     {
-        match self.objects.get(id as usize) {
+        match self.get(id) {
             Some(object) => parts::changes(object),
             None => 0,
         }
@@ -461,7 +559,7 @@ impl Heap {
     pub fn units(&self, id: u32) -> &[u16]
         ensures { result.now ≡ units_of self.now.objects id }
     {
-        match self.objects.get(id as usize) {
+        match self.get(id) {
             Some(object) => parts::units(object),
             None => &[],
         }
@@ -471,7 +569,7 @@ impl Heap {
     pub fn elem(&self, id: u32) -> Option<&Ty>
         ensures { option_copied result ≡ elem_of self.now.objects id }
     {
-        match self.objects.get(id as usize) {
+        match self.get(id) {
             Some(object) => parts::elem(object),
             None => None,
         }
@@ -481,7 +579,7 @@ impl Heap {
     pub fn message(&self, id: u32) -> Option<&UText>
         ensures { option_copied result ≡ message_of self.now.objects id }
     {
-        match self.objects.get(id as usize) {
+        match self.get(id) {
             Some(object) => parts::message(object),
             None => None,
         }
@@ -491,7 +589,7 @@ impl Heap {
     pub fn iface(&self, id: u32) -> Option<u32>
         ensures { result ≡ iface_of self.now.objects id }
     {
-        match self.objects.get(id as usize) {
+        match self.get(id) {
             Some(object) => parts::iface(object),
             None => None,
         }
@@ -501,7 +599,7 @@ impl Heap {
     pub fn target(&self, id: u32) -> Option<&Target>
         ensures { option_copied result ≡ target_of self.now.objects id }
     {
-        match self.objects.get(id as usize) {
+        match self.get(id) {
             Some(object) => parts::target(object),
             None => None,
         }
@@ -511,7 +609,7 @@ impl Heap {
     pub fn captures(&self, id: u32) -> &[Value]
         ensures { result.now ≡ captures_of self.now.objects id }
     {
-        match self.objects.get(id as usize) {
+        match self.get(id) {
             Some(object) => parts::captures(object),
             None => &[],
         }

@@ -4,6 +4,7 @@
 mod answer;
 mod changes;
 mod error;
+mod front;
 mod heap;
 mod laws;
 mod outcome;
@@ -13,6 +14,7 @@ mod weights;
 
 pub use answer::{Answer, throw};
 pub use error::HeapErr;
+pub use front::Front;
 pub use heap::Heap;
 pub use laws::heap_keeps_fit;
 pub use outcome::{End, Outcome, Which};

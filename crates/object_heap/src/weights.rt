@@ -65,40 +65,40 @@ pub fn all_within(objects: &[Object], room: u64) -> Option<u64>
 }
 
 /// How much the insertion of an item adds to the weight.
-pub fn insert_growth(objects: &[Object], id: u32, at: usize) -> u64
+pub fn insert_growth(objects: &[Object], id: usize, at: usize) -> u64
     ensures { result ≡ asked (spec.insert_growth at) 0 (slice_get objects.now id) }
 {
-    match objects.get(id as usize) {
+    match objects.get(id) {
         Some(Object::List { items, .. }) if at <= items.len() => 1,
         _ => 0,
     }
 }
 
 /// How much the insertion of so many items adds to the weight.
-pub fn insert_all_growth(objects: &[Object], id: u32, at: usize, count: usize) -> u64
+pub fn insert_all_growth(objects: &[Object], id: usize, at: usize, count: usize) -> u64
     ensures { result ≡ asked (spec.insert_all_growth at count) 0 (slice_get objects.now id) }
 {
-    match objects.get(id as usize) {
+    match objects.get(id) {
         Some(Object::List { items, .. }) if at <= items.len() => count as u64,
         _ => 0,
     }
 }
 
 /// How much units at the end of a builder add to the weight.
-pub fn units_growth(objects: &[Object], id: u32, count: usize) -> u64
+pub fn units_growth(objects: &[Object], id: usize, count: usize) -> u64
     ensures { result ≡ asked (spec.units_growth count) 0 (slice_get objects.now id) }
 {
-    match objects.get(id as usize) {
+    match objects.get(id) {
         Some(Object::Builder { .. }) => count as u64,
         _ => 0,
     }
 }
 
 /// How much units in the place of those of a builder from one place up to another add to the weight.
-pub fn splice_growth(objects: &[Object], id: u32, from: usize, to: usize, count: usize) -> u64
+pub fn splice_growth(objects: &[Object], id: usize, from: usize, to: usize, count: usize) -> u64
     ensures { result ≡ asked (spec.splice_growth from to count) 0 (slice_get objects.now id) }
 {
-    match objects.get(id as usize) {
+    match objects.get(id) {
         Some(Object::Builder { units }) => run_growth(units.len(), from, to, count),
         _ => 0,
     }
@@ -115,10 +115,10 @@ fn run_growth(len: usize, from: usize, to: usize, count: usize) -> u64
 }
 
 /// How much a put adds to the weight.
-pub fn put_growth(objects: &[Object], id: u32, key: &Value) -> u64
+pub fn put_growth(objects: &[Object], id: usize, key: &Value) -> u64
     ensures { result ≡ asked (spec.put_growth key.now) 0 (slice_get objects.now id) }
 {
-    match objects.get(id as usize) {
+    match objects.get(id) {
         Some(object) => put_growth_in(object, key),
         None => 0,
     }
@@ -144,12 +144,12 @@ fn growth_of_new(pairs: &Pairs, key: &Value, growth: u64) -> u64
 }
 
 /// How much pairs that are put add to the weight.
-pub fn put_all_growth(objects: &[Object], id: u32, more: &Pairs) -> u64
+pub fn put_all_growth(objects: &[Object], id: usize, more: &Pairs) -> u64
     ensures growth { result ≡ asked (spec.put_all_growth more.now) 0 (slice_get objects.now id) }
     ensures distinct { HasDistinctKeys more.now }
 {
     let _count = more.len();
-    match objects.get(id as usize) {
+    match objects.get(id) {
         Some(object) => put_all_growth_in(object, more),
         None => 0,
     }

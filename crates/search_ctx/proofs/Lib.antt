@@ -1,6 +1,6 @@
 mod FieldLemmas
 mod Fitting
-mod Params
+mod ParamLemmas
 mod Passing
 mod Reading
 mod Sorting

@@ -13,12 +13,12 @@ ghost use Rattle.search_ctx.specs.declared.line.SearchKind.TheVariants as k;
 use crate::doc::FieldDoc;
 use crate::error::DocErr;
 use crate::fields::Fields;
+use crate::job_params::Params;
 use crate::placing::place_doc;
 use crate::walk::SCORE_KEY;
 use job_file::has_whole_numbers;
-use json_bridge::{BindErr, Bound, bind};
+use json_bridge::{BindErr, Bound};
 use json_reading::{Scratch, read_json};
-use object_heap::Heap;
 use object_values::{Elements, Seed, Value};
 use serde_json::Value as Json;
 use std::alloc::{AllocError, Global};
@@ -111,18 +111,17 @@ pub fn bind_document(
     alloc: Global,
     kind: SearchKind,
     fields: &Fields,
-    params: &Json,
+    params: &Params,
     line: &Json,
     room: u64,
     seed: Seed,
 ) -> Result<Bound, BindErr>
-    ensures { Answered result (bound_document kind fields.now (view params.now) room (view line.now)) }
+    ensures { Answered result (bound_document kind fields.now (view params.now.json) room (view line.now)) }
 {
     if !has_whole_numbers(line) {
         return Err(BindErr::Number);
     }
-    let mut heap = Heap::new(alloc, room, seed);
-    let params = bind(&mut heap, params, true)?;
+    let (mut heap, params) = params.begin(alloc, room, seed)?;
     let search = search_of(alloc, kind, fields, line)?;
     let doc = place_doc(&mut heap, fields, &search.doc)?;
     let args = args_of(alloc, params, doc, search.score)?;
@@ -164,13 +163,13 @@ pub fn bind_line(
     alloc: Global,
     kind: SearchKind,
     fields: &Fields,
-    params: &Json,
+    params: &Params,
     line: &[u8],
     room: u64,
     seed: Seed,
     scratch: &mut Scratch,
 ) -> Result<Bound, BindErr>
-    ensures text { IsUtf8 line.now → Answered result (bound_line kind fields.now (view params.now) room (read line.now)) }
+    ensures text { IsUtf8 line.now → Answered result (bound_line kind fields.now (view params.now.json) room (read line.now)) }
     ensures bytes { ¬ IsUtf8 line.now → Answered result (Err syntax) }
 {
     let json = read_json(alloc, line, scratch)?;

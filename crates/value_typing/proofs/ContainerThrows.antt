@@ -10,7 +10,7 @@ use Rattle.object_values.specs.declared.value.Value.TheVariants as v
 use Rattle.object_heap.specs.Effects.{Effect, Gives, after_paying, gives_paid, throws}
 use Rattle.object_heap.specs.Fits.{Rules, Fits}
 use Rattle.object_heap.specs.Objects.{renewed_by, with_all_inserted, with_all_put, with_inserted, with_put}
-use Rattle.object_heap.specs.Parts.{items_of, size_of}
+use Rattle.object_heap.specs.Parts.{items_of, open_at, size_of}
 use Rattle.object_heap.specs.Store.{Store, paid, with_change}
 use Rattle.object_heap.proofs.Keeping.{throws_fits}
 use Rattle.container_calls.specs.Arguments.{object_at}
@@ -89,7 +89,7 @@ entered_there store list container (Some object) =
 told_there : (rules : Rules) (store : Store) (told : Told) → Fits rules store.objects → ThrowsThere (taking.told_effect store told)
 told_there rules store (Says told) f = outcome_there rules store told f
 told_there rules store (Enters list at container) f =
-    entered_there store list container (taking.grown at (entry_references store.objects container) (slice_get store.objects list))
+    entered_there store list container (taking.grown at (entry_references store.objects container) (open_at store.objects list))
 
 -- ---- iterators and joining
 

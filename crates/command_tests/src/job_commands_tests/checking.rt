@@ -5,7 +5,7 @@ use command_parts::Status;
 use std::test::Fail;
 
 /// A job, and the line that `check` writes.
-const CHECKED: [(&str, &str); 15] = [
+const CHECKED: [(&str, &str); 21] = [
     (r#"{"context":"field","script":"1"}"#, r#"{"ok":true}"#),
     (r#"{"context":"eval","script":"1"}"#, r#"{"ok":true}"#),
     (
@@ -18,7 +18,7 @@ const CHECKED: [(&str, &str); 15] = [
         r#"{"refused":{"field":"context","name":"JobField","number":22}}"#,
     ),
     (
-        r#"{"context":"update","script":"1"}"#,
+        r#"{"context":"metric","map":"1","combine":"1","reduce":"1"}"#,
         r#"{"refused":{"field":"context","name":"JobField","number":22}}"#,
     ),
     (
@@ -32,6 +32,31 @@ const CHECKED: [(&str, &str); 15] = [
     (
         r#"{"context":"field","script":"1 +"}"#,
         r#"{"refused":{"name":"Syntax","number":2,"offset":3}}"#,
+    ),
+    // A script that changes a document gives nothing, so its last statement is no expression.
+    (
+        r#"{"context":"update","script":"ctx.op = 'none'","params":{},"steps":true,"listing":true,"members":true,"prelude":true}"#,
+        r#"{"ok":true}"#,
+    ),
+    (
+        r#"{"context":"ingest","script":"ctx.remove('a')"}"#,
+        r#"{"ok":true}"#,
+    ),
+    (
+        r#"{"context":"update","script":"ctx.op"}"#,
+        r#"{"refused":{"name":"NotAStatement","number":11,"offset":0}}"#,
+    ),
+    (
+        r#"{"context":"ingest","script":"ctx = params"}"#,
+        r#"{"refused":{"name":"NotAssignable","number":15,"offset":4}}"#,
+    ),
+    (
+        r#"{"context":"update","script":"int doc = 1; return 1"}"#,
+        r#"{"refused":{"name":"BadCast","number":9,"offset":20}}"#,
+    ),
+    (
+        r#"{"context":"ingest","script":"ctx.a = 1","mapping":{}}"#,
+        r#"{"refused":{"field":"mapping","name":"JobField","number":22}}"#,
     ),
     // The allowlist is told of before the script.
     (

@@ -100,81 +100,116 @@ fn function(alloc: Global, iface: Option<u32>) -> Object {
     }
 }
 
+// Puts an object there, unless there is no memory for it.
+fn place(heap: &mut Heap, object: Result<Object, AllocError>) -> bool {
+    match object {
+        Ok(object) => heap.place(object).is_ok(),
+        Err(_) => false,
+    }
+}
+
+fn array(elem: Ty, items: Result<Elements<Value>, AllocError>) -> Result<Object, AllocError> {
+    Ok(Object::Array {
+        elem,
+        items: items?,
+    })
+}
+
 // 0 to 4: lists and arrays.
-fn place_lists(alloc: Global, heap: &mut Heap) -> Result<(), AllocError> {
-    heap.place(three(alloc, Value::Int(1))?)?;
-    heap.place(three(alloc, Value::Int(1))?)?;
-    heap.place(three(alloc, Value::Long(1))?)?;
-    heap.place(Object::Array {
-        elem: Ty::Prim(Primitive::Int),
-        items: one_two(alloc)?,
-    })?;
-    heap.place(Object::Array {
-        elem: Ty::Def,
-        items: one_two(alloc)?,
-    })?;
-    Ok(())
+fn place_lists(alloc: Global, heap: &mut Heap) -> bool {
+    let mut placed = place(heap, three(alloc, Value::Int(1)));
+    placed &= place(heap, three(alloc, Value::Int(1)));
+    placed &= place(heap, three(alloc, Value::Long(1)));
+    placed &= place(heap, array(Ty::Prim(Primitive::Int), one_two(alloc)));
+    placed &= place(heap, array(Ty::Def, one_two(alloc)));
+    placed
 }
 
 // 5 to 9: maps and sets.
-fn place_keyed(alloc: Global, heap: &mut Heap) -> Result<(), AllocError> {
-    heap.place(map(alloc, "a", 1, "b", 2)?)?;
-    heap.place(map(alloc, "b", 2, "a", 1)?)?;
-    heap.place(map(alloc, "a", 1, "b", 3)?)?;
-    heap.place(set(alloc, "a", "b")?)?;
-    heap.place(set(alloc, "b", "a")?)?;
-    Ok(())
+fn place_keyed(alloc: Global, heap: &mut Heap) -> bool {
+    let mut placed = place(heap, map(alloc, "a", 1, "b", 2));
+    placed &= place(heap, map(alloc, "b", 2, "a", 1));
+    placed &= place(heap, map(alloc, "a", 1, "b", 3));
+    placed &= place(heap, set(alloc, "a", "b"));
+    placed &= place(heap, set(alloc, "b", "a"));
+    placed
 }
 
-fn view(map: u32, part: Part) -> Object {
-    Object::View { map, part }
+fn place_view(heap: &mut Heap, map: u32, part: Part) -> bool {
+    place(heap, Ok(Object::View { map, part }))
 }
 
 // 10 to 16: views and entries.
-fn place_views(alloc: Global, heap: &mut Heap) -> Result<(), AllocError> {
-    heap.place(view(5, Part::Keys))?;
-    heap.place(view(6, Part::Keys))?;
-    heap.place(view(5, Part::Values))?;
-    heap.place(view(5, Part::Entries))?;
-    heap.place(entry(alloc, 5, "a")?)?;
-    heap.place(entry(alloc, 6, "a")?)?;
-    heap.place(entry(alloc, 5, "gone")?)?;
-    Ok(())
+fn place_views(alloc: Global, heap: &mut Heap) -> bool {
+    let mut placed = place_view(heap, 5, Part::Keys);
+    placed &= place_view(heap, 6, Part::Keys);
+    placed &= place_view(heap, 5, Part::Values);
+    placed &= place_view(heap, 5, Part::Entries);
+    placed &= place(heap, entry(alloc, 5, "a"));
+    placed &= place(heap, entry(alloc, 6, "a"));
+    placed &= place(heap, entry(alloc, 5, "gone"));
+    placed
 }
 
-// 17 to 22: an iterator, a builder, function values and exceptions.
-fn place_others(alloc: Global, heap: &mut Heap) -> Result<(), AllocError> {
-    heap.place(Object::Iter {
+fn iterator() -> Object {
+    Object::Iter {
         over: 0,
         cursor: 0,
         seen: 0,
         last: None,
-    })?;
-    heap.place(builder(alloc)?)?;
-    heap.place(function(alloc, None))?;
-    heap.place(function(alloc, Some(FUNCTION)))?;
-    heap.place(Object::Exc {
-        class: EXCEPTION,
+    }
+}
+
+fn told(alloc: Global, class: u32, message: &str) -> Result<Object, AllocError> {
+    Ok(Object::Exc {
+        class,
+        message: Some(UText::from_utf8(alloc, message)?),
+    })
+}
+
+fn untold(class: u32) -> Object {
+    Object::Exc {
+        class,
         message: None,
-    })?;
-    heap.place(Object::Exc {
-        class: ILLEGAL_ARGUMENT_EXCEPTION,
-        message: Some(UText::from_utf8(alloc, "bad")?),
-    })?;
-    Ok(())
+    }
+}
+
+// 17 to 22: an iterator, a builder, function values and exceptions.
+fn place_others(alloc: Global, heap: &mut Heap) -> bool {
+    let mut placed = place(heap, Ok(iterator()));
+    placed &= place(heap, builder(alloc));
+    placed &= place(heap, Ok(function(alloc, None)));
+    placed &= place(heap, Ok(function(alloc, Some(FUNCTION))));
+    placed &= place(heap, Ok(untold(EXCEPTION)));
+    placed &= place(heap, told(alloc, ILLEGAL_ARGUMENT_EXCEPTION, "bad"));
+    placed
+}
+
+// 23 to 25: two lists that hold themselves, and an empty one.
+fn place_ends(alloc: Global, heap: &mut Heap) -> bool {
+    let mut placed = place(heap, list(alloc, &[23]));
+    placed &= place(heap, list(alloc, &[24]));
+    placed &= place(heap, list(alloc, &[]));
+    placed
+}
+
+fn place_all(alloc: Global, heap: &mut Heap) -> bool {
+    let mut placed = place_lists(alloc, heap);
+    placed &= place_keyed(alloc, heap);
+    placed &= place_views(alloc, heap);
+    placed &= place_others(alloc, heap);
+    placed &= place_ends(alloc, heap);
+    placed
 }
 
 /// Objects of each kind. 23 and 24 are lists that hold themselves, and 25 is an empty one.
 pub fn sample(alloc: Global) -> Result<Heap, AllocError> {
     let mut heap = Heap::new(alloc, 0, Seed::of(b"test"));
-    place_lists(alloc, &mut heap)?;
-    place_keyed(alloc, &mut heap)?;
-    place_views(alloc, &mut heap)?;
-    place_others(alloc, &mut heap)?;
-    heap.place(list(alloc, &[23])?)?;
-    heap.place(list(alloc, &[24])?)?;
-    heap.place(list(alloc, &[])?)?;
-    Ok(heap)
+    if place_all(alloc, &mut heap) {
+        Ok(heap)
+    } else {
+        Err(AllocError)
+    }
 }
 
 /// Lists that stand in one another, the last of this many levels: each but the first holds the one before so many times.

@@ -65,8 +65,8 @@ const FILES: [(&str, Answer); 28] = [
     ("{\"context\":\"field \"}", CONTEXT),
     ("{\"context\":\"sort\"}", CONTEXT),
     ("{\"context\":\"updates\"}", CONTEXT),
-    ("{\"context\":\"update\",\"nope\":1}", CONTEXT),
-    ("{\"context\":\"ingest\",\"script\":\"1\"}", CONTEXT),
+    ("{\"context\":\"update\",\"nope\":1}", "field nope"),
+    ("{\"context\":\"ingest\",\"script\":\"1\"}", OK),
     ("{\"context\":\"metric\",\"shards\":0}", CONTEXT),
     ("{\"context\":\"eval\",\"script\":\"1\"}", CONTEXT),
     ("{\"context\":\"filter\",\"script\":\"true\"}", OK),
@@ -97,7 +97,8 @@ const BYTES: [&[u8]; 3] = [b"\xef\xbb\xbf{}", b"\xff", b"{\"context\":\"\xff\"}"
 fn bytes_that_are_no_json(rt: HostRuntime) {
     for bytes in &BYTES {
         let as_wanted = answers(rt.alloc(), *bytes, JobCommand::Run, SYNTAX);
-        assert!(rt; as_wanted, "{bytes:?}");
+        let length = bytes.len();
+        assert!(rt; as_wanted, "{length}");
     }
 }
 
@@ -137,7 +138,7 @@ const EVALS: [(&str, Answer); 13] = [
         "{\"context\":\"eval\",\"script\":\"1\",\"prelude\":1}",
         "field prelude",
     ),
-    ("{\"context\":\"update\",\"script\":\"1\"}", CONTEXT),
+    ("{\"context\":\"update\",\"script\":\"1\"}", OK),
     ("{\"context\":\"sort\",\"script\":\"1\"}", CONTEXT),
     ("[]", SYNTAX),
 ];

@@ -1,4 +1,4 @@
-//! What a job has: its defaults, each key that is given, and jobs of contexts that are not built yet.
+//! What a job has: its defaults, each key that is given, and jobs of other contexts, one of which is not built yet.
 
 use super::files::{Answer, OK, answers, is_error};
 use job_file::{FieldKind, Job, JobCommand, JobContext, MapErr, Mapping};
@@ -121,9 +121,11 @@ const EXAMPLES: [(&[u8], JobCommand); 4] = [
 
 #[test]
 fn examples_of_the_document(rt: HostRuntime) {
+    let mut at = 0u32;
     for (file, command) in &EXAMPLES {
         let read = answers(rt.alloc(), *file, *command, OK);
-        assert!(rt; read, "{file:?}");
+        assert!(rt; read, "{at}");
+        at = at.wrapping_add(1);
     }
 }
 
@@ -138,7 +140,7 @@ fn object_answers(alloc: Global, context: JobContext, text: &str, wanted: Answer
     }
 }
 
-/// Objects as jobs of contexts that are not built yet.
+/// Objects as jobs of other contexts; that of `metric` is not built yet.
 const OBJECTS: [(JobContext, &str, Answer); 30] = [
     (
         JobContext::Update,
@@ -293,7 +295,7 @@ const OBJECTS: [(JobContext, &str, Answer); 30] = [
 ];
 
 #[test]
-fn contexts_that_are_not_built(rt: HostRuntime) {
+fn other_contexts(rt: HostRuntime) {
     for (context, text, wanted) in &OBJECTS {
         let as_wanted = object_answers(rt.alloc(), *context, *text, *wanted);
         assert!(rt; as_wanted, "{text}");

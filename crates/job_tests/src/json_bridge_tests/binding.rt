@@ -1,5 +1,5 @@
 //! What JSON values are bound to.
-use super::shown::shown;
+use super::shown::is_shown;
 use json_bridge::{NumErr, bind};
 use object_heap::Heap;
 use object_values::Seed;
@@ -16,10 +16,7 @@ fn is_bound(alloc: Global, json: &str, frozen: bool, wanted: &str) -> bool {
     };
     let mut heap = Heap::new(alloc, ROOM, Seed::of(b"test"));
     match bind(&mut heap, &json, frozen) {
-        Ok(value) => match shown(alloc, &heap, &value) {
-            Ok(text) => text.as_str() == wanted && heap.room_left() == ROOM,
-            Err(_) => false,
-        },
+        Ok(value) => is_shown(alloc, &heap, &value, wanted) && heap.room_left() == ROOM,
         Err(NumErr::Number) => wanted == "number",
         Err(NumErr::NoMemory) => false,
     }

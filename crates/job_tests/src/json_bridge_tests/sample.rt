@@ -42,17 +42,22 @@ fn map(pairs: Pairs) -> Object {
     }
 }
 
+fn put(pairs: &mut Pairs, key: Result<Value, AllocError>, value: Value) -> Result<(), AllocError> {
+    pairs.put(key?, value)?;
+    Ok(())
+}
+
 /// A map of two pairs.
 fn map_of(
     alloc: Global,
-    key: Value,
+    key: Result<Value, AllocError>,
     value: Value,
-    other: Value,
+    other: Result<Value, AllocError>,
     more: Value,
 ) -> Result<Object, AllocError> {
     let mut pairs = Pairs::new(alloc, Seed::of(b"test"));
-    pairs.put(key, value)?;
-    pairs.put(other, more)?;
+    put(&mut pairs, key, value)?;
+    put(&mut pairs, other, more)?;
     Ok(map(pairs))
 }
 
@@ -96,107 +101,150 @@ fn view(map: u32, part: Part) -> Object {
     Object::View { map, part }
 }
 
-// 0 to 8: what has a form, but for 6, a view with entries.
-fn place_forms(alloc: Global, heap: &mut Heap) -> Result<(), AllocError> {
-    heap.place(plain_values(alloc)?)?;
-    heap.place(map_of(
-        alloc,
-        text(alloc, "b")?,
-        Value::Int(7),
-        text(alloc, "a")?,
-        Value::Ref(0),
-    )?)?;
-    heap.place(set(alloc)?)?;
-    heap.place(array(alloc)?)?;
-    heap.place(view(1, Part::Keys))?;
-    heap.place(view(1, Part::Values))?;
-    heap.place(view(1, Part::Entries))?;
-    heap.place(map(Pairs::new(alloc, Seed::of(b"test"))))?;
-    heap.place(view(7, Part::Entries))?;
-    Ok(())
+// Puts an object there, unless there is no memory for it.
+fn place(heap: &mut Heap, object: Result<Object, AllocError>) -> bool {
+    match object {
+        Ok(object) => heap.place(object).is_ok(),
+        Err(_) => false,
+    }
 }
 
-// 9 to 13: what has no form.
-fn place_others(alloc: Global, heap: &mut Heap) -> Result<(), AllocError> {
-    heap.place(Object::Entry {
+fn letters(alloc: Global) -> Result<Object, AllocError> {
+    map_of(
+        alloc,
+        text(alloc, "b"),
+        Value::Int(7),
+        text(alloc, "a"),
+        Value::Ref(0),
+    )
+}
+
+// 0 to 8: what has a form, but for 6, a view with entries.
+fn place_forms(alloc: Global, heap: &mut Heap) -> bool {
+    let mut placed = place(heap, plain_values(alloc));
+    placed &= place(heap, letters(alloc));
+    placed &= place(heap, set(alloc));
+    placed &= place(heap, array(alloc));
+    placed &= place(heap, Ok(view(1, Part::Keys)));
+    placed &= place(heap, Ok(view(1, Part::Values)));
+    placed &= place(heap, Ok(view(1, Part::Entries)));
+    placed &= place(heap, Ok(map(Pairs::new(alloc, Seed::of(b"test")))));
+    placed &= place(heap, Ok(view(7, Part::Entries)));
+    placed
+}
+
+fn entry(alloc: Global) -> Result<Object, AllocError> {
+    Ok(Object::Entry {
         map: 1,
         key: text(alloc, "a")?,
-    })?;
-    heap.place(Object::Iter {
+    })
+}
+
+fn iterator() -> Object {
+    Object::Iter {
         over: 0,
         cursor: 0,
         seen: 0,
         last: None,
-    })?;
-    heap.place(Object::Builder {
+    }
+}
+
+fn builder(alloc: Global) -> Object {
+    Object::Builder {
         units: Elements::new(alloc),
-    })?;
-    heap.place(Object::Fun {
+    }
+}
+
+fn function(alloc: Global) -> Object {
+    Object::Fun {
         iface: None,
         target: Target::Gone,
         captures: Elements::new(alloc),
-    })?;
-    heap.place(Object::Exc {
+    }
+}
+
+fn exception() -> Object {
+    Object::Exc {
         class: EXCEPTION,
         message: None,
-    })?;
-    Ok(())
+    }
+}
+
+// 9 to 13: what has no form.
+fn place_others(alloc: Global, heap: &mut Heap) -> bool {
+    let mut placed = place(heap, entry(alloc));
+    placed &= place(heap, Ok(iterator()));
+    placed &= place(heap, Ok(builder(alloc)));
+    placed &= place(heap, Ok(function(alloc)));
+    placed &= place(heap, Ok(exception()));
+    placed
 }
 
 /// A map whose second key has this name's place.
-fn with_key(alloc: Global, key: Value) -> Result<Object, AllocError> {
-    map_of(alloc, text(alloc, "a")?, Value::Ref(11), key, Value::Null)
+fn with_key(alloc: Global, key: Result<Value, AllocError>) -> Result<Object, AllocError> {
+    map_of(alloc, text(alloc, "a"), Value::Ref(11), key, Value::Null)
+}
+
+/// A map whose keys are texts of one unit.
+fn with_units(alloc: Global, first: u16, second: u16) -> Result<Object, AllocError> {
+    map_of(
+        alloc,
+        unit(alloc, first),
+        Value::Null,
+        unit(alloc, second),
+        Value::Null,
+    )
 }
 
 // 14 to 21: maps with keys that are no names, behind a value that has no form; and which fault comes first.
-fn place_keys(alloc: Global, heap: &mut Heap) -> Result<(), AllocError> {
-    heap.place(with_key(alloc, Value::Int(1))?)?;
-    heap.place(with_key(alloc, Value::Null)?)?;
-    heap.place(with_key(alloc, Value::Char(97))?)?;
-    heap.place(map_of(
-        alloc,
-        unit(alloc, 0xd800)?,
-        Value::Null,
-        unit(alloc, 0xfffd)?,
-        Value::Null,
-    )?)?;
-    heap.place(map_of(
-        alloc,
-        unit(alloc, 0xd800)?,
-        Value::Null,
-        unit(alloc, 0xdfff)?,
-        Value::Null,
-    )?)?;
-    heap.place(with_key(alloc, text(alloc, "")?)?)?;
-    heap.place(pair(alloc, Value::Ref(11), Value::Ref(14))?)?;
-    heap.place(pair(alloc, Value::Ref(14), Value::Ref(11))?)?;
-    Ok(())
+fn place_keys(alloc: Global, heap: &mut Heap) -> bool {
+    let mut placed = place(heap, with_key(alloc, Ok(Value::Int(1))));
+    placed &= place(heap, with_key(alloc, Ok(Value::Null)));
+    placed &= place(heap, with_key(alloc, Ok(Value::Char(97))));
+    placed &= place(heap, with_units(alloc, 0xd800, 0xfffd));
+    placed &= place(heap, with_units(alloc, 0xd800, 0xdfff));
+    placed &= place(heap, with_key(alloc, text(alloc, "")));
+    placed &= place(heap, pair(alloc, Value::Ref(11), Value::Ref(14)));
+    placed &= place(heap, pair(alloc, Value::Ref(14), Value::Ref(11)));
+    placed
 }
 
-// 22 to 26: a view of what is no map; a list in itself; a builder before such a list, and behind it; a set with null.
-fn place_rest(alloc: Global, heap: &mut Heap) -> Result<(), AllocError> {
-    heap.place(view(0, Part::Values))?;
-    heap.place(pair(alloc, Value::Null, Value::Ref(23))?)?;
-    heap.place(pair(alloc, Value::Ref(11), Value::Ref(23))?)?;
-    heap.place(pair(alloc, Value::Ref(23), Value::Ref(11))?)?;
+fn set_with_null(alloc: Global) -> Result<Object, AllocError> {
     let mut items = Pairs::new(alloc, Seed::of(b"test"));
     items.put(Value::Null, Value::Null)?;
     items.put(Value::Long(1), Value::Null)?;
-    heap.place(Object::Set {
+    Ok(Object::Set {
         class: HASH_SET,
         items,
         guard: Guard::Open,
         changes: 0,
-    })?;
-    Ok(())
+    })
+}
+
+// 22 to 26: a view of what is no map; a list in itself; a builder before such a list, and behind it; a set with null.
+fn place_rest(alloc: Global, heap: &mut Heap) -> bool {
+    let mut placed = place(heap, Ok(view(0, Part::Values)));
+    placed &= place(heap, pair(alloc, Value::Null, Value::Ref(23)));
+    placed &= place(heap, pair(alloc, Value::Ref(11), Value::Ref(23)));
+    placed &= place(heap, pair(alloc, Value::Ref(23), Value::Ref(11)));
+    placed &= place(heap, set_with_null(alloc));
+    placed
+}
+
+fn place_all(alloc: Global, heap: &mut Heap) -> bool {
+    let mut placed = place_forms(alloc, heap);
+    placed &= place_others(alloc, heap);
+    placed &= place_keys(alloc, heap);
+    placed &= place_rest(alloc, heap);
+    placed
 }
 
 /// The heap, its objects by their numbers as said above.
 pub fn sample(alloc: Global) -> Result<Heap, AllocError> {
     let mut heap = Heap::new(alloc, 0, Seed::of(b"test"));
-    place_forms(alloc, &mut heap)?;
-    place_others(alloc, &mut heap)?;
-    place_keys(alloc, &mut heap)?;
-    place_rest(alloc, &mut heap)?;
-    Ok(heap)
+    if place_all(alloc, &mut heap) {
+        Ok(heap)
+    } else {
+        Err(AllocError)
+    }
 }

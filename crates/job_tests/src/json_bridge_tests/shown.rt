@@ -1,63 +1,41 @@
 //! Heaps as texts.
+use crate::written::Written;
 use object_heap::Heap;
-use object_values::{Elements, Guard, Object, Pairs, Value};
+use object_values::{Object, Pairs, Value};
 use pl_types::classes::{ARRAY_LIST, HASH_MAP};
-use std::alloc::{AllocError, Global};
+use std::alloc::Global;
 
-/// Writes a value: a number with `i` for an int and `L` for a long, a text in quotes, an object by its number.
-fn push_value(alloc: Global, out: &mut String, value: &Value) -> Result<(), AllocError> {
-    let text = match value {
-        Value::Null => format!(in alloc; "null")?,
-        Value::Bool(true) => format!(in alloc; "true")?,
-        Value::Bool(false) => format!(in alloc; "false")?,
-        Value::Int(number) => format!(in alloc; "{number}i")?,
-        Value::Long(number) => format!(in alloc; "{number}L")?,
-        Value::Str(text) => {
-            let text = text.to_utf8()?;
-            format!(in alloc; "'{text}'")?
-        }
-        Value::Ref(id) => format!(in alloc; "#{id}")?,
-        _ => format!(in alloc; "?")?,
-    };
-    out.push_str(text.as_str())
+/// Writes a value, a long with `L`.
+fn push_value(out: &mut Written, value: &Value) {
+    out.push_value(value, "L")
 }
 
 /// Writes items in brackets.
-fn push_items(alloc: Global, out: &mut String, items: &[Value]) -> Result<(), AllocError> {
-    out.push_str("[")?;
+fn push_items(out: &mut Written, items: &[Value]) {
+    out.push("[");
     for item in items {
-        push_value(alloc, out, item)?;
-        out.push_str(",")?;
+        push_value(out, item);
+        out.push(",");
     }
-    out.push_str("]")
+    out.push("]")
 }
 
 /// Writes the pairs of a map in braces.
-fn push_pairs(alloc: Global, out: &mut String, pairs: &Pairs) -> Result<(), AllocError> {
-    out.push_str("{")?;
+fn push_pairs(out: &mut Written, pairs: &Pairs) {
+    out.push("{");
     for at in 0..pairs.len() {
         if let (Some(key), Some(value)) = (pairs.key_at(at), pairs.value_at(at)) {
-            push_value(alloc, out, key)?;
-            out.push_str("=")?;
-            push_value(alloc, out, value)?;
-            out.push_str(",")?;
+            push_value(out, key);
+            out.push("=");
+            push_value(out, value);
+            out.push(",");
         }
     }
-    out.push_str("}")
-}
-
-/// What guards an object: `!` stands for nothing that changes it.
-fn guard_mark(guard: &Guard) -> &'static str {
-    match guard {
-        Guard::Open => "",
-        Guard::Frozen => "!",
-        Guard::Keys(_) => "k",
-        Guard::Mapped => "m",
-    }
+    out.push("}")
 }
 
 /// Writes an object, an ArrayList or a HashMap.
-fn push_object(alloc: Global, out: &mut String, object: &Object) -> Result<(), AllocError> {
+fn push_object(out: &mut Written, object: &Object) {
     match object {
         Object::List {
             class: ARRAY_LIST,
@@ -65,8 +43,8 @@ fn push_object(alloc: Global, out: &mut String, object: &Object) -> Result<(), A
             guard,
             ..
         } => {
-            push_items(alloc, out, items.as_slice())?;
-            out.push_str(guard_mark(guard))
+            push_items(out, items.as_slice());
+            out.push_guard(guard)
         }
         Object::Map {
             class: HASH_MAP,
@@ -74,24 +52,29 @@ fn push_object(alloc: Global, out: &mut String, object: &Object) -> Result<(), A
             guard,
             ..
         } => {
-            push_pairs(alloc, out, pairs)?;
-            out.push_str(guard_mark(guard))
+            push_pairs(out, pairs);
+            out.push_guard(guard)
         }
-        _ => out.push_str("?"),
+        _ => out.push("?"),
     }
 }
 
-/// Each object of a heap in its order, and then a value.
-pub fn shown(alloc: Global, heap: &Heap, value: &Value) -> Result<String, AllocError> {
-    let mut out = String::new(alloc);
+/// Writes each object of a heap in its order.
+fn push_objects(out: &mut Written, heap: &Heap) {
     for id in 0..heap.len() {
         if let Ok(id) = u32::try_from(id)
             && let Some(object) = heap.get(id)
         {
-            push_object(alloc, &mut out, object)?;
-            out.push_str(" ")?;
+            push_object(out, object);
+            out.push(" ");
         }
     }
-    push_value(alloc, &mut out, value)?;
-    Ok(out)
+}
+
+/// Whether this is what a heap and a value are written as.
+pub fn is_shown(alloc: Global, heap: &Heap, value: &Value, wanted: &str) -> bool {
+    let mut out = Written::new(alloc);
+    push_objects(&mut out, heap);
+    push_value(&mut out, value);
+    out.is(wanted)
 }

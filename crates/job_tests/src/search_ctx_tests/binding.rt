@@ -1,10 +1,10 @@
 //! Lines that are bound, as texts.
-use super::shown::{lists_shown, start_shown};
+use super::shown::{has_lists, is_start};
 use job_file::Mapping;
 use json_reading::Scratch;
-use search_ctx::{BindErr, Bound, Fields, SearchKind, Seed, bind_line};
+use search_ctx::{BindErr, Bound, Fields, Params, SearchKind, Seed, bind_line};
 use serde_json::Value as Json;
-use std::alloc::{AllocError, Global};
+use std::alloc::Global;
 
 /// The room of a start.
 pub const ROOM: u64 = 3;
@@ -14,6 +14,12 @@ pub fn fields_of(alloc: Global, mapping: &str) -> Option<Fields> {
     let json = Json::from_str(alloc, mapping).ok()?;
     let mapping = Mapping::read(alloc, &json).ok()?;
     Fields::new(alloc, &mapping).ok()
+}
+
+/// Parameters of a text, if it is one of JSON.
+pub fn params_of(alloc: Global, text: &str) -> Option<Params> {
+    let json = Json::from_str(alloc, text).ok()?;
+    Params::new(alloc, json, Seed::of(b"job")).ok()
 }
 
 /// A line that is bound with such parameters, which is `NoMemory` where a text is none of the mapping's or of JSON.
@@ -27,8 +33,8 @@ pub fn bound(
     let Some(fields) = fields_of(alloc, texts.0) else {
         return Err(BindErr::NoMemory);
     };
-    match Json::from_str(alloc, texts.1) {
-        Ok(params) => bind_line(
+    match params_of(alloc, texts.1) {
+        Some(params) => bind_line(
             alloc,
             kind,
             &fields,
@@ -38,7 +44,7 @@ pub fn bound(
             Seed::of(b"job"),
             scratch,
         ),
-        Err(_) => Err(BindErr::NoMemory),
+        None => Err(BindErr::NoMemory),
     }
 }
 
@@ -49,14 +55,6 @@ fn cause(error: BindErr) -> &'static str {
         BindErr::Number => "number",
         BindErr::Field => "field",
         BindErr::NoMemory => "memory",
-    }
-}
-
-/// Whether a shown text is the one that is wanted.
-fn is_text(shown: Result<String, AllocError>, wanted: &str) -> bool {
-    match shown {
-        Ok(text) => text.as_str() == wanted,
-        Err(_) => false,
     }
 }
 
@@ -71,7 +69,7 @@ pub fn has_values(alloc: Global, mapping: &str, line: &str, wanted: &str) -> boo
         line.as_bytes(),
         &mut scratch,
     ) {
-        Ok(bound) => is_text(lists_shown(alloc, &bound.heap), wanted),
+        Ok(bound) => has_lists(alloc, &bound.heap, wanted),
         Err(error) => cause(error) == wanted,
     }
 }
@@ -86,7 +84,7 @@ pub fn starts_so(
     scratch: &mut Scratch,
 ) -> bool {
     match bound(alloc, kind, texts, line.as_bytes(), scratch) {
-        Ok(bound) => is_text(start_shown(alloc, &bound), wanted),
+        Ok(bound) => is_start(alloc, &bound, wanted),
         Err(error) => cause(error) == wanted,
     }
 }

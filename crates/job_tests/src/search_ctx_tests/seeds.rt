@@ -1,11 +1,10 @@
 //! The seeds of heaps, by the job and by the line.
-use super::binding::{ROOM, fields_of};
+use super::binding::{ROOM, fields_of, params_of};
 use job_file::JobCommand;
 use job_loading::read_job;
 use json_reading::Scratch;
 use outer_io::MemFiles;
-use search_ctx::{Fields, SearchKind, Seed, bind_line};
-use serde_json::Value as Json;
+use search_ctx::{Fields, Params, SearchKind, Seed, bind_line};
 use std::alloc::{AllocError, Global};
 
 /// A job and a line. No two are the same, and those of one length differ in one byte.
@@ -18,7 +17,12 @@ const STARTS: [(&str, &str); 5] = [
 ];
 
 /// The seed of the heap to which a line of a job is bound.
-fn seed_under(alloc: Global, fields: &Fields, params: &Json, start: (&str, &str)) -> Option<Seed> {
+fn seed_under(
+    alloc: Global,
+    fields: &Fields,
+    params: &Params,
+    start: (&str, &str),
+) -> Option<Seed> {
     let seed = Seed::of(start.0.as_bytes());
     let line = start.1.as_bytes();
     let mut scratch = Scratch::new(alloc);
@@ -40,10 +44,8 @@ fn seed_under(alloc: Global, fields: &Fields, params: &Json, start: (&str, &str)
 /// The same under no fields and no parameters.
 fn seed_of(alloc: Global, start: (&str, &str)) -> Option<Seed> {
     let fields = fields_of(alloc, "{}")?;
-    match Json::from_str(alloc, "{}") {
-        Ok(params) => seed_under(alloc, &fields, &params, start),
-        Err(_) => None,
-    }
+    let params = params_of(alloc, "{}")?;
+    seed_under(alloc, &fields, &params, start)
 }
 
 /// Whether a start has this seed.

@@ -1,100 +1,64 @@
 //! Heaps and starts as texts.
+use crate::written::Written;
 use object_heap::Heap;
 use object_values::{Elements, Guard, Object, Pairs, Value};
 use pl_types::classes::SCRIPT_DOC_VALUES;
 use search_ctx::Bound;
-use std::alloc::{AllocError, Global};
-
-/// Writes a value: a long as it is and an int with `i`, a text in quotes, an object by its number.
-fn push_value(alloc: Global, out: &mut String, value: &Value) -> Result<(), AllocError> {
-    let text = match value {
-        Value::Null => format!(in alloc; "null")?,
-        Value::Bool(true) => format!(in alloc; "true")?,
-        Value::Bool(false) => format!(in alloc; "false")?,
-        Value::Int(number) => format!(in alloc; "{number}i")?,
-        Value::Long(number) => format!(in alloc; "{number}")?,
-        Value::Str(text) => {
-            let text = text.to_utf8()?;
-            format!(in alloc; "'{text}'")?
-        }
-        Value::Ref(id) => format!(in alloc; "#{id}")?,
-        _ => format!(in alloc; "?")?,
-    };
-    out.push_str(text.as_str())
-}
+use std::alloc::Global;
 
 /// Writes values, a space behind each.
-fn push_values(alloc: Global, out: &mut String, values: &[Value]) -> Result<(), AllocError> {
+fn push_values(out: &mut Written, values: &[Value]) {
     for value in values {
-        push_value(alloc, out, value)?;
-        out.push_str(" ")?;
+        out.push_value(value, "");
+        out.push(" ");
     }
-    Ok(())
 }
 
 /// Writes the pairs of a map.
-fn push_pairs(alloc: Global, out: &mut String, pairs: &Pairs) -> Result<(), AllocError> {
+fn push_pairs(out: &mut Written, pairs: &Pairs) {
     for at in 0..pairs.len() {
         if let (Some(key), Some(value)) = (pairs.key_at(at), pairs.value_at(at)) {
-            push_value(alloc, out, key)?;
-            out.push_str("=")?;
-            push_value(alloc, out, value)?;
-            out.push_str(" ")?;
+            out.push_value(key, "");
+            out.push("=");
+            out.push_value(value, "");
+            out.push(" ");
         }
-    }
-    Ok(())
-}
-
-/// What guards an object: `!` stands for nothing that changes it, and `m` for a map of the names of fields.
-fn guard_mark(guard: &Guard) -> &'static str {
-    match guard {
-        Guard::Open => "",
-        Guard::Frozen => "!",
-        Guard::Keys(_) => "k",
-        Guard::Mapped => "m",
     }
 }
 
 /// Writes a list, with `d` behind one of doc values.
-fn push_list(
-    alloc: Global,
-    out: &mut String,
-    class: u32,
-    items: &Elements<Value>,
-    guard: &Guard,
-) -> Result<(), AllocError> {
-    out.push_str("[ ")?;
-    push_values(alloc, out, items.as_slice())?;
-    out.push_str(if class == SCRIPT_DOC_VALUES {
+fn push_list(out: &mut Written, class: u32, items: &Elements<Value>, guard: &Guard) {
+    out.push("[ ");
+    push_values(out, items.as_slice());
+    out.push(if class == SCRIPT_DOC_VALUES {
         "]d"
     } else {
         "]"
-    })?;
-    out.push_str(guard_mark(guard))
+    });
+    out.push_guard(guard)
 }
 
 /// Writes an object.
-fn push_object(alloc: Global, out: &mut String, object: &Object) -> Result<(), AllocError> {
+fn push_object(out: &mut Written, object: &Object) {
     match object {
         Object::List {
             class,
             items,
             guard,
             ..
-        } => push_list(alloc, out, *class, items, guard),
+        } => push_list(out, *class, items, guard),
         Object::Map { pairs, guard, .. } => {
-            out.push_str("{ ")?;
-            push_pairs(alloc, out, pairs)?;
-            out.push_str("}")?;
-            out.push_str(guard_mark(guard))
+            out.push("{ ");
+            push_pairs(out, pairs);
+            out.push("}");
+            out.push_guard(guard)
         }
-        _ => out.push_str("?"),
+        _ => out.push("?"),
     }
 }
 
-/// The doc values in a heap, a list for each field.
-pub fn lists_shown(alloc: Global, heap: &Heap) -> Result<String, AllocError> {
-    let mut out = String::new(alloc);
+/// Writes the doc values in a heap, a list for each field.
+fn push_lists(out: &mut Written, heap: &Heap) {
     for id in 0..4_000u32 {
         if let Some(
             Object::List {
@@ -104,24 +68,35 @@ pub fn lists_shown(alloc: Global, heap: &Heap) -> Result<String, AllocError> {
             },
         ) = heap.get(id)
         {
-            out.push_str("[ ")?;
-            push_values(alloc, &mut out, items.as_slice())?;
-            out.push_str("]")?;
+            out.push("[ ");
+            push_values(out, items.as_slice());
+            out.push("]");
         }
     }
-    Ok(out)
 }
 
-/// Each object of a start in its order, and then its arguments.
-pub fn start_shown(alloc: Global, start: &Bound) -> Result<String, AllocError> {
-    let mut out = String::new(alloc);
+/// Whether the doc values in a heap are those.
+pub fn has_lists(alloc: Global, heap: &Heap, wanted: &str) -> bool {
+    let mut out = Written::new(alloc);
+    push_lists(&mut out, heap);
+    out.is(wanted)
+}
+
+/// Writes each object of a heap in its order.
+fn push_objects(out: &mut Written, heap: &Heap) {
     for id in 0..4_000u32 {
-        if let Some(object) = start.heap.get(id) {
-            push_object(alloc, &mut out, object)?;
-            out.push_str(" ")?;
+        if let Some(object) = heap.get(id) {
+            push_object(out, object);
+            out.push(" ");
         }
     }
-    out.push_str("| ")?;
-    push_values(alloc, &mut out, start.args.as_slice())?;
-    Ok(out)
+}
+
+/// Whether a start is that: each object in its order, and then its arguments.
+pub fn is_start(alloc: Global, start: &Bound, wanted: &str) -> bool {
+    let mut out = Written::new(alloc);
+    push_objects(&mut out, &start.heap);
+    out.push("| ");
+    push_values(&mut out, start.args.as_slice());
+    out.is(wanted)
 }

@@ -1,4 +1,4 @@
-use Rattle.search_ctx.proofs.Params.{job_params}
+use Rattle.search_ctx.proofs.ParamLemmas.{job_params}
 use Rattle.search_ctx.proofs.laws.params_are_objects.Goals as goal
 
 pub returns : goal.returns

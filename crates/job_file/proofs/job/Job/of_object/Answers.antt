@@ -34,5 +34,5 @@ returns c =
     let file = view c.args.file.now in
     let n = c.in_ok-numbers in
     let none = no_fault c.args.context file c.in_ok-try_known.ensures.known c.in_ok-try_types.ensures.right n.ensures.within c.in_ok-mapping.ensures.good in
-    let same = parts_are_the_job c.args.context file n.numbers c.in_ok-mapping.mapping n.ensures.limits n.ensures.shards n.ensures.order n.ensures.slice c.in_ok-mapping.ensures.fields in
+    let same = parts_are_the_job c.args.context file n.numbers c.in_ok-mapping.mapping n.ensures.limits n.ensures.shards n.ensures.order n.ensures.slice n.ensures.capacity c.in_ok-mapping.ensures.fields in
     job_answers c.args.context file _ none (c.in_ok-made.ensures ∙ same)

@@ -1,14 +1,28 @@
-use Rattle.std.proofs.Common.{refl, arith}
-use Rattle.object_heap.proofs.Paying.{paid_if, paid_not}
+use Rattle.std.proofs.Common.{◌≡◌, false, refl, sym, ◌∙◌, arith}
+use Rattle.object_heap.specs.Objects.{with_inserted}
+use Rattle.object_heap.specs.Parts.{frozen_of}
+use Rattle.object_heap.proofs.Fronting.{no_room_behind, pays_behind}
 use Rattle.object_heap.proofs.Growth.{insert_grows}
+use Rattle.object_heap.proofs.Fitting.{inserted_kind}
+use Rattle.object_heap.proofs.Retiring.{kept_retired}
 use Rattle.object_heap.proofs.heap.Heap.grow.Goals as goal
 
 pub returns-then-growth-self : goal.returns-then-growth-self
 returns-then-growth-self c =
-    let growth = rw c.as_slice.ensures.value at c.insert_growth-growth.ensures in
-    rw (← c.self.view_is) (paid_not _ _ _ (insert_grows _ c.args.id c.args.at c.args.value) (omega (arith, growth)), refl)
+    let p = c.self.inside in
+    let free : frozen_of p.objects.items c.in-Some.place ≡ false = rw c.as_slice.ensures.value at c.in-Some.ensures.free in
+    let growth = rw c.as_slice-2.ensures.value at c.insert_growth-growth.ensures in
+    rw (← c.self.view_is)
+    (no_room_behind p.front p.objects.items p.room c.args.id c.in-Some.place c.insert_growth-growth.result (with_inserted c.args.at c.args.value) c.in-Some.ensures.place free (insert_grows p.objects.items c.in-Some.place c.args.at c.args.value ∙ sym growth) (omega arith), refl)
 
 pub returns-in-Ok : goal.returns-in-Ok
 returns-in-Ok c =
-    let growth = rw c.as_slice.ensures.value at c.insert_growth-growth.ensures in
-    rw (← c.self.view_is, c.in-Ok.ensures.ok, growth) (paid_if _ _ _ (insert_grows _ c.args.id c.args.at c.args.value) (omega (arith, growth)))
+    let p = c.self.inside in
+    let free : frozen_of p.objects.items c.in-Some.place ≡ false = rw c.as_slice.ensures.value at c.in-Some.ensures.free in
+    let growth = rw c.as_slice-2.ensures.value at c.insert_growth-growth.ensures in
+    rw (← c.self.view_is, c.in-Ok.ensures.ok)
+    (pays_behind p.front p.objects.items p.room c.args.id c.in-Some.place c.insert_growth-growth.result (with_inserted c.args.at c.args.value) c.in-Some.ensures.place free (insert_grows p.objects.items c.in-Some.place c.args.at c.args.value ∙ sym growth) (omega arith))
+
+pub invariant_of-self : goal.invariant_of-self
+invariant_of-self c =
+    rw c.in-Ok.ensures.ok (kept_retired c.self.inside.settled c.self.inside.objects.items c.in-Some.place (with_inserted c.args.at c.args.value) (inserted_kind c.args.at c.args.value) (λ iface target captures. refl) c.self.invariant)

@@ -1,0 +1,11 @@
+pub mod Aiming
+pub mod Along
+pub mod Chains
+pub mod Coming
+pub mod Confined
+pub mod Counting
+pub mod Fitting
+pub mod Leaving
+pub mod Passes
+pub mod Renewing
+pub mod Staging

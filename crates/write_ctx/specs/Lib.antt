@@ -1,0 +1,5 @@
+pub mod Keys
+pub mod Laws
+pub mod Lines
+pub mod Placing
+pub mod Replies
