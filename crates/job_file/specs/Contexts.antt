@@ -53,10 +53,10 @@ is_built c.Score = true
 is_built c.Field = true
 is_built c.Update = true
 is_built c.Ingest = true
-is_built c.Metric = false
-is_built c.Updates = false
-is_built c.Pipe = false
-is_built c.Serve = false
+is_built c.Metric = true
+is_built c.Updates = true
+is_built c.Pipe = true
+is_built c.Serve = true
 is_built c.FunctionScore = false
 
 -- Jobs of these contexts are of one command alone, and neither checked nor listed.

@@ -78,12 +78,12 @@ impl JobContext {
             | JobContext::Score
             | JobContext::Field
             | JobContext::Update
-            | JobContext::Ingest => true,
-            JobContext::Metric
+            | JobContext::Ingest
+            | JobContext::Metric
             | JobContext::Updates
             | JobContext::Pipe
-            | JobContext::Serve
-            | JobContext::FunctionScore => false,
+            | JobContext::Serve => true,
+            JobContext::FunctionScore => false,
         }
     }
 
