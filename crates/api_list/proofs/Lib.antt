@@ -6,3 +6,4 @@ pub mod KeepingTaken
 pub mod Sifting
 pub mod Steps
 pub mod Telling
+pub mod Plain
