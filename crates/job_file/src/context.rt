@@ -79,11 +79,10 @@ impl JobContext {
             | JobContext::Field
             | JobContext::Update
             | JobContext::Ingest
-            | JobContext::Metric
             | JobContext::Updates
             | JobContext::Pipe
             | JobContext::Serve => true,
-            JobContext::FunctionScore => false,
+            JobContext::Metric | JobContext::FunctionScore => false,
         }
     }
 
