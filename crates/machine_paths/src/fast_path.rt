@@ -14,6 +14,7 @@ ghost use Rattle.machine_parts.specs.Code.{codes_in};
 ghost use Rattle.machine_parts.specs.Frames.{at_line, with_stack};
 
 use crate::fast_calls::{Taken, call, give_back, moves, stays};
+use crate::number_rows::cast_top;
 use crate::numbers::{is_shift, on_ints, on_longs, takes_one, word_of};
 use arithmetic::Num;
 use code_meaning::Word;
@@ -480,7 +481,7 @@ pub fn put_for_two(frames: &mut Frames, number: Num, next: usize)
     frames.write_upper(word_of(number), next);
 }
 
-// An instruction without operands, which copies a number or takes it off.
+// An instruction without operands, which copies a number, takes it off or casts it.
 #[inline(always)]
 fn fast_plain(frames: &mut Frames, kind: Plain, next: usize) -> bool
     requires { next ≡ suc frames.old.top.line }
@@ -490,7 +491,7 @@ fn fast_plain(frames: &mut Frames, kind: Plain, next: usize) -> bool
     match kind {
         Plain::Dup => duplicate(frames, next),
         Plain::Pop => take_off(frames, next),
-        _ => false,
+        _ => cast_top(frames, kind, next),
     }
 }
 

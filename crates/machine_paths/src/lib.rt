@@ -4,6 +4,7 @@
 mod boxes;
 mod fast_calls;
 mod fast_path;
+mod number_rows;
 mod numbers;
 mod value_path;
 mod value_rows;

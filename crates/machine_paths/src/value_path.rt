@@ -16,6 +16,7 @@ ghost use Rattle.machine_parts.specs.Code.{codes_in};
 
 use crate::fast_calls::{Taken, call, moves, stays};
 use crate::fast_path::{FastRun, jump, repeat};
+use crate::number_rows::cast_top;
 use crate::value_rows::{
     box_top, calculate, duplicate_word, give_word, load_word, operate_top, store_word, take_word,
     unbox_top,
@@ -261,7 +262,7 @@ fn value_numbered(
     }
 }
 
-// An instruction without operands, which copies a word or takes it off, or puts a null.
+// An instruction without operands, which copies a word, takes it off or puts a null, or casts a number.
 #[inline(always)]
 fn value_plain(frames: &mut Frames, kind: Plain, next: usize) -> bool
     requires { next ≡ suc frames.old.top.line }
@@ -272,7 +273,7 @@ fn value_plain(frames: &mut Frames, kind: Plain, next: usize) -> bool
         Plain::Null => frames.put(Word::R(Value::Null), next),
         Plain::Dup => duplicate_word(frames, next),
         Plain::Pop => take_word(frames, next),
-        _ => false,
+        _ => cast_top(frames, kind, next),
     }
 }
 
