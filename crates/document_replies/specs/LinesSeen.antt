@@ -18,7 +18,7 @@ use Rattle.document_replies.specs.Searches.{documents_of, reply_of, start_of}
 
 -- the changes of a context of the code
 abbrev pub changes_of : ChangeContext → Changes
-changes_of context = record { kind = context.kind; params = view context.params; room = context.room }
+changes_of context = record { kind = context.kind; params = view context.params.json; room = context.room }
 
 -- the value of `ctx` is kept of a start
 abbrev pub KeepsCtx : Start → Value → Type 0

@@ -6,12 +6,11 @@ ghost use Rattle.document_replies.specs.LinesSeen.{KeepsCtx, changes_of};
 
 use crate::context::{BoundLine, LineContext};
 use allowlist::Allow;
-use json_bridge::{BindErr, Bound};
+use json_bridge::{BindErr, Bound, Params};
 use json_reading::Scratch;
 use json_replies::{Line, ShownKeys, shown_line};
 use object_heap::Outcome;
 use object_values::Value;
-use serde_json::Value as Json;
 use std::alloc::{AllocError, Global};
 use write_ctx::{Seed, WriteKind, bind_line, replies_have_no_float, reply};
 
@@ -19,7 +18,7 @@ use write_ctx::{Seed, WriteKind, bind_line, replies_have_no_float, reply};
 pub struct ChangeContext {
     pub alloc: Global,
     pub kind: WriteKind,
-    pub params: Json,
+    pub params: Params,
     /// The room of each run.
     pub room: u64,
     /// The job's seed. The heap of each run is made from it and from the run's line.

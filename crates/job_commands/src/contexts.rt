@@ -159,7 +159,7 @@ fn change_context(
     Ok(ChangeContext {
         alloc,
         kind,
-        params: found.job.params.clone()?,
+        params: Params::new(alloc, found.job.params.clone()?, found.seed)?,
         room: found.job.limits.room,
         seed: found.seed,
     })

@@ -4,7 +4,6 @@
 mod doc;
 mod error;
 mod fields;
-mod job_params;
 mod laws;
 mod line;
 mod placing;
@@ -15,8 +14,7 @@ mod words;
 pub use doc::FieldDoc;
 pub use error::DocErr;
 pub use fields::Fields;
-pub use job_params::Params;
-pub use json_bridge::{BindErr, Bound};
+pub use json_bridge::{BindErr, Bound, Params};
 pub use laws::{
     fields_stay, job_fields_are_distinct, lines_are_typed, lines_fit, params_are_objects,
     placing_keeps_fit, read_fields_are_distinct,

@@ -8,7 +8,7 @@ mod line;
 mod placing;
 mod replies;
 
-pub use json_bridge::{BindErr, Bound};
+pub use json_bridge::{BindErr, Bound, Params};
 pub use keys::WriteKind;
 pub use laws::{lines_are_typed, lines_fit, replies_have_no_float};
 pub use line::{bind_document, bind_line};

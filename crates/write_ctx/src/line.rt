@@ -12,9 +12,8 @@ use crate::checking::is_line;
 use crate::keys::WriteKind;
 use crate::placing::place_ctx;
 use job_file::has_whole_numbers;
-use json_bridge::{BindErr, Bound, bind};
+use json_bridge::{BindErr, Bound, Params};
 use json_reading::{Scratch, read_json};
-use object_heap::Heap;
 use object_values::{Elements, Seed, Value};
 use serde_json::Value as Json;
 use std::alloc::{AllocError, Global};
@@ -24,18 +23,17 @@ use std::alloc::{AllocError, Global};
 pub fn bind_document(
     alloc: Global,
     kind: WriteKind,
-    params: &Json,
+    params: &Params,
     line: Json,
     room: u64,
     seed: Seed,
 ) -> Result<Bound, BindErr>
-    ensures { Answered result (bound_document kind (view params.now) room (view line)) }
+    ensures { Answered result (bound_document kind (view params.now.json) room (view line)) }
 {
     if !has_whole_numbers(&line) {
         return Err(BindErr::Number);
     }
-    let mut heap = Heap::new(alloc, room, seed);
-    let params = bind(&mut heap, params, true)?;
+    let (mut heap, params) = params.begin(alloc, room, seed)?;
     if !is_line(kind, &line) {
         return Err(BindErr::Field);
     }
@@ -70,13 +68,13 @@ fn seed_over(seed: Seed, line: &[u8]) -> Seed
 pub fn bind_line(
     alloc: Global,
     kind: WriteKind,
-    params: &Json,
+    params: &Params,
     line: &[u8],
     room: u64,
     seed: Seed,
     scratch: &mut Scratch,
 ) -> Result<Bound, BindErr>
-    ensures text { IsUtf8 line.now → Answered result (bound_line kind (view params.now) room (read line.now)) }
+    ensures text { IsUtf8 line.now → Answered result (bound_line kind (view params.now.json) room (read line.now)) }
     ensures bytes { ¬ IsUtf8 line.now → Answered result (Err syntax) }
 {
     let json = read_json(alloc, line, scratch)?;

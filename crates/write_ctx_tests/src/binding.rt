@@ -3,10 +3,16 @@ use crate::shown::start_shown;
 use json_reading::Scratch;
 use serde_json::Value as Json;
 use std::alloc::{AllocError, Global};
-use write_ctx::{BindErr, Bound, Seed, WriteKind, bind_line};
+use write_ctx::{BindErr, Bound, Params, Seed, WriteKind, bind_line};
 
 /// The room of a start.
 const ROOM: u64 = 1_000;
+
+/// The parameters of a text, if it is JSON.
+fn params_of(alloc: Global, text: &str) -> Option<Params> {
+    let json = Json::from_str(alloc, text).ok()?;
+    Params::new(alloc, json, Seed::of(b"job")).ok()
+}
 
 /// A line that is bound with such parameters, which is `NoMemory` where their text is no JSON.
 pub fn bound(
@@ -16,9 +22,9 @@ pub fn bound(
     line: &[u8],
     scratch: &mut Scratch,
 ) -> Result<Bound, BindErr> {
-    match Json::from_str(alloc, params) {
-        Ok(params) => bind_line(alloc, kind, &params, line, ROOM, Seed::of(b"job"), scratch),
-        Err(_) => Err(BindErr::NoMemory),
+    match params_of(alloc, params) {
+        Some(params) => bind_line(alloc, kind, &params, line, ROOM, Seed::of(b"job"), scratch),
+        None => Err(BindErr::NoMemory),
     }
 }
 

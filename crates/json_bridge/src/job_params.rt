@@ -6,7 +6,9 @@ ghost use Rattle.job_file.specs.Values.{has_whole_numbers};
 ghost use Rattle.json_bridge.specs.Binding.{bound};
 ghost use Rattle.json_bridge.specs.declared.error.NumErr.TheVariants as num_err;
 
-use json_bridge::{NumErr, bind, binding_freezes};
+use crate::binding::bind;
+use crate::error::NumErr;
+use crate::laws::binding_freezes;
 use object_heap::{Front, Heap};
 use object_values::{Seed, Value};
 use serde_json::Value as Json;
@@ -95,12 +97,7 @@ impl Params {
     /// # Errors
     ///
     /// `Number` where a number in them is no whole one of 64 bits with a sign, and want of memory.
-    pub(crate) fn begin(
-        &self,
-        alloc: Global,
-        room: u64,
-        seed: Seed,
-    ) -> Result<(Heap, Value), NumErr>
+    pub fn begin(&self, alloc: Global, room: u64, seed: Seed) -> Result<(Heap, Value), NumErr>
         ensures store { IfOk result (λ begun. begun.0 ≡ record { objects = (bound true [] (view self.now.json)).objects; room = room }) }
         ensures value { IfOk result (λ begun. begun.1 ≡ (bound true [] (view self.now.json)).value) }
         ensures whole { IfOk result (λ _. has_whole_numbers (view self.now.json) ≡ true) }
