@@ -1,5 +1,5 @@
 -- What the lines of an input ask for: the clients, and what is told of the lines that are none.
-use Rattle.std.specs.Prelude.{◌≡◌, ℕ, Bool, true, false, List, [], ◌∷◌, ◌++◌, length, map, Result, Ok, Err, nat_lt, if◌then◌else◌}
+use Rattle.std.specs.Prelude.{ℕ, Bool, true, false, List, [], ◌∷◌, ◌++◌, length, map, Result, Ok, Err, nat_lt, if◌then◌else◌}
 use Rattle.outer_io.specs.Lines.{InputLine, Within, Beyond, Nothing}
 use Rattle.json_bridge.specs.Starts.{Fault}
 use Rattle.document_replies.specs.Replies.{fault_of, is_blank}

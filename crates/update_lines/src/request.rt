@@ -1,9 +1,12 @@
 //! What a line of `updates` asks for.
 
-ghost use Rattle.std.specs.Prelude.{◌≡◌, codes, option_map, option_and_then, IfOk};
+ghost use Rattle.std.specs.Prelude.{◌≡◌, codes, option_map, Err, IfOk, string_bytes};
+ghost use Rattle.std.specs.Str.{IsUtf8};
 ghost use Rattle.serde_json.specs.Find.{get};
+ghost use Rattle.serde_json.specs.Read.{read};
 ghost use Rattle.serde_json.specs.View.{members_view, view};
-ghost use Rattle.update_lines.specs.Requests.{Asks, are_keys, asked_by, asked_of, id_in, is_id, is_key, is_line, is_params, is_retries, request_in, request_view, retries_in, retries_of};
+ghost use Rattle.json_bridge.specs.Starts.{syntax};
+ghost use Rattle.update_lines.specs.Requests.{Asks, are_keys, asked_by, asked_in, asked_of, id_in, is_id, is_key, is_line, is_params, is_retries, request_in, request_view, retries_in, retries_of};
 
 use job_file::has_whole_numbers;
 use json_bridge::BindErr;
@@ -111,7 +114,7 @@ fn is_line(line: &Value) -> bool
 
 /// The id of a line.
 fn id_in(alloc: Global, line: &Value) -> Result<String, AllocError>
-    ensures { IfOk result (λ id. id.buf.items ≡ id_in (view line.now)) }
+    ensures { IfOk result (λ id. string_bytes id ≡ id_in (view line.now)) }
 {
     match line.get("id").and_then(Value::as_str) {
         Some(id) => String::from_str(alloc, id),
@@ -167,17 +170,21 @@ fn asked_by(alloc: Global, line: Value) -> Result<Request, BindErr>
     }
 }
 
+/// What a line asks for, by whether it is UTF-8.
+fn requested(alloc: Global, line: &[u8], scratch: &mut Scratch) -> Result<Request, BindErr>
+    ensures text { IsUtf8 line.now → Asks result (asked_in (read line.now)) }
+    ensures bytes { ¬ IsUtf8 line.now → Asks result (Err syntax) }
+{
+    let json = read_json(alloc, line, scratch)?;
+    asked_by(alloc, json)
+}
+
 /// What a line of input asks for. Of the causes why it asks for nothing the first is answered: `Syntax` where `serde_json` does not read
 /// the line, `Number` where some number is no whole one of 64 bits with a sign, `Field` where it is no object, or has another key than
 /// `id`, `params` and `retry_on_conflict`, or lacks the id, or has a value of another type, or more than 100 retries. The scratch is kept
 /// from line to line, and what lies in it changes nothing.
-pub fn read_request(
-    alloc: Global,
-    line: &[u8],
-    scratch: &mut Scratch,
-) -> Result<Request, BindErr>
+pub fn read_request(alloc: Global, line: &[u8], scratch: &mut Scratch) -> Result<Request, BindErr>
     ensures { Asks result (asked_of line.now) }
 {
-    let json = read_json(alloc, line, scratch)?;
-    asked_by(alloc, json)
+    requested(alloc, line, scratch)
 }
