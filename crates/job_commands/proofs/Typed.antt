@@ -48,7 +48,7 @@ search_context k.Score = record {
 }
 search_context k.Field = record { distinct = ((params_no_doc, tt), (tt, tt)); present = (tt, (tt, tt)); result = built_named t.Def def_built }
 
-pub change_context : IsContext change_types
+change_context : IsContext change_types
 unfolding out-Ty denote.Hole.Carrier.out
 change_context = record { distinct = ((params_no_ctx, tt), (tt, tt)); present = (tt, (tt, tt)); result = tt }
 
@@ -65,7 +65,7 @@ row_context c.Field key = search_context k.Field
 row_context c.Update key = change_context
 row_context c.Ingest key = change_context
 row_context c.Metric key = own_context
-row_context c.Updates key = change_context
+row_context c.Updates key = own_context
 row_context c.Pipe key = own_context
 row_context c.Serve key = own_context
 row_context c.FunctionScore key = own_context
@@ -80,7 +80,7 @@ has_types k.Filter args (params, doc, is) = subst (HaveAll (types_in (map variab
 has_types k.Score args (params, doc, score, is) = subst (HaveAll (types_in (map variable_of (search_types k.Score).variables))) (sym is) (tt, (tt, ((score, refl), tt)))
 has_types k.Field args (params, doc, is) = subst (HaveAll (types_in (map variable_of (search_types k.Field).variables))) (sym is) (tt, (tt, tt))
 
-pub ctx_types : (args : List Value) → HasCtx args → HaveAll (types_in (map variable_of change_types.variables)) args
+ctx_types : (args : List Value) → HasCtx args → HaveAll (types_in (map variable_of change_types.variables)) args
 unfolding out-Ty denote.Hole.Carrier.out
 ctx_types args (params, ctx, is) = subst (HaveAll (types_in (map variable_of change_types.variables))) (sym is) (tt, (tt, tt))
 

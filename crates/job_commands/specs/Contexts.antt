@@ -70,10 +70,6 @@ search_row kind = record { types = λ key. search_types kind; lines = λ job. So
 abbrev pub change_row : WriteKind → ContextRow
 change_row kind = record { types = λ key. change_types; lines = λ job. Some (change_context (changes_in kind job) (keys_in job)); by_key = false }
 
--- the script of `updates` changes documents of a store: its lines are those of no document
-abbrev pub updates_row : ContextRow
-updates_row = record { types = λ key. change_types; lines = λ job. None; by_key = false }
-
 abbrev pub row_of : JobContext → ContextRow
 row_of c.Eval = own_row
 row_of c.Filter = search_row k.Filter
@@ -81,9 +77,9 @@ row_of c.Score = search_row k.Score
 row_of c.Field = search_row k.Field
 row_of c.Update = change_row w.Update
 row_of c.Ingest = change_row w.Ingest
-row_of c.Updates = updates_row
 -- these are not built, and no job of theirs is read
 row_of c.Metric = record { types = λ key. own_types; lines = λ job. None; by_key = true }
+row_of c.Updates = own_row
 row_of c.Pipe = own_row
 row_of c.Serve = own_row
 row_of c.FunctionScore = own_row

@@ -66,7 +66,7 @@ fn push_all(alloc: Global, scripts: &[Script], listings: &mut Vec<String>) -> Re
 }
 
 /// The listings of the codes of a job's scripts, two for each.
-pub fn listings_of(alloc: Global, scripts: &JobScripts) -> Result<Vec<String>, AllocError>
+pub(crate) fn listings_of(alloc: Global, scripts: &JobScripts) -> Result<Vec<String>, AllocError>
     ensures { IfOk result (λ listings. map string_bytes listings.items ≡ listings_of (codes_of scripts.now)) }
 {
     let mut listings = Vec::new(alloc);

@@ -99,9 +99,10 @@ pub(crate) fn context_types(
         JobContext::Filter => search_types(alloc, SearchKind::Filter),
         JobContext::Score => search_types(alloc, SearchKind::Score),
         JobContext::Field => search_types(alloc, SearchKind::Field),
-        JobContext::Update | JobContext::Ingest | JobContext::Updates => change_types(alloc),
+        JobContext::Update | JobContext::Ingest => change_types(alloc),
         JobContext::Eval
         | JobContext::Metric
+        | JobContext::Updates
         | JobContext::Pipe
         | JobContext::Serve
         | JobContext::FunctionScore => Ok(own_types(alloc)),

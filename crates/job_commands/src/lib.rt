@@ -18,10 +18,7 @@ mod starts;
 mod tally;
 
 pub use check_command::check;
-pub use codes::listings_of;
 pub use gen_command::gen_;
 pub use list_command::list;
-pub use preparing::{JobScripts, PreparedJob, prepare};
 pub use run_command::run;
-pub use script::LimitedScript;
 pub use starts::lines_start_well;

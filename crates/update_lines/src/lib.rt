@@ -2,6 +2,7 @@
 #![tactic(auto)]
 
 mod heard;
+mod hearing;
 mod request;
 
 pub use heard::{Heard, Slot};
