@@ -1,6 +1,6 @@
 //! What the lines of an input do.
 
-ghost use Rattle.std.specs.Prelude.{◌≤◌, length};
+ghost use Rattle.std.specs.Prelude.{◌≡◌, ◌≤◌, length};
 ghost use Rattle.update_lines.specs.Limits.{most_clients};
 
 use crate::request::Request;
@@ -30,5 +30,17 @@ impl Drop for Heard {
             slots: _slots,
             requests: _requests,
         } = self;
+    }
+}
+
+impl Heard {
+    /// What each line is, and the clients.
+    pub fn into_parts(self) -> (Vec<Slot>, Vec<Request>)
+        ensures slots { result.0 ≡ self.slots }
+        ensures requests { result.1 ≡ self.requests }
+        ensures few { length result.1.items ≤ most_clients }
+    {
+        let Heard { slots, requests } = self;
+        (slots, requests)
     }
 }

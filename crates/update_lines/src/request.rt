@@ -37,6 +37,22 @@ impl Drop for Request {
     }
 }
 
+impl Request {
+    /// The id, the params, and how often the client begins again.
+    pub fn into_parts(self) -> (String, Option<Value>, u32)
+        ensures id { result.0 ≡ self.id }
+        ensures params { result.1 ≡ self.params }
+        ensures retries { result.2 ≡ self.retries }
+    {
+        let Request {
+            id,
+            params,
+            retries,
+        } = self;
+        (id, params, retries)
+    }
+}
+
 fn is_key(name: &str) -> bool
     ensures { result ≡ is_key name.now }
 {
