@@ -5,6 +5,8 @@ pub mod Changes
 pub mod ChangeLaws
 pub mod LinesSeen
 -- Definitions of the libraries below that clauses here speak of, passed on.
+pub use Rattle.job_replies.specs.Refusals
+pub use Rattle.job_replies.specs.declared as job_replies_declared
 pub use Rattle.json_bridge.specs.Starts
 pub use Rattle.json_replies.specs.Showing
 pub use Rattle.json_replies.specs.declared as json_replies_declared

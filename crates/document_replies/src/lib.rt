@@ -11,11 +11,12 @@ mod lines;
 mod script;
 mod search;
 
+pub use blank::is_blank;
 pub use change::ChangeContext;
 pub use context::{BoundLine, LineContext};
 pub use job::{DocumentJob, DocumentScratch};
 pub use job_replies::{
-    accepted_line, prelude_listing_line, script_listing_line, script_refusal_line,
+    LineFault, accepted_line, prelude_listing_line, script_listing_line, script_refusal_line,
 };
 pub use json_replies::{Line, ShownKeys, line_of};
 pub use laws::{changes_are_typed, changes_fit};

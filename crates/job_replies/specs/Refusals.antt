@@ -51,6 +51,7 @@ line_kind line.Long = codes "line-long"
 line_kind line.Syntax = codes "line-syntax"
 line_kind line.Number = codes "line-number"
 line_kind line.Field = codes "line-field"
+line_kind line.Limit = codes "line-limit"
 
 abbrev pub line_error : LineFault → Data
 line_error fault = kind_reply (line_kind fault)

@@ -15,6 +15,8 @@ pub enum LineFault {
     Number,
     /// It is no object, or breaks a rule of its context.
     Field,
+    /// As many lines as may be were accepted before it.
+    Limit,
 }
 
 impl LineFault {
@@ -27,6 +29,7 @@ impl LineFault {
             LineFault::Syntax => "{\"error\":{\"kind\":\"line-syntax\"}}\n",
             LineFault::Number => "{\"error\":{\"kind\":\"line-number\"}}\n",
             LineFault::Field => "{\"error\":{\"kind\":\"line-field\"}}\n",
+            LineFault::Limit => "{\"error\":{\"kind\":\"line-limit\"}}\n",
         }
     }
 }

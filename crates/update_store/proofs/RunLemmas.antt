@@ -13,8 +13,8 @@ use Rattle.update_store.specs.declared.store.CommitErr.TheVariants as e
 use Rattle.update_store.specs.Documents.{DocData, ChangeData, DocumentsData, version_at}
 use Rattle.update_store.specs.Committing.{StoreData, read, committed, IsCommitted, CommitsNot}
 use Rattle.update_store.specs.Replies.{change_reply, none_reply, conflict_reply}
-use Rattle.update_store.specs.Updates.{Made, PhaseData, Read, Run, Write, Keep, Ended, ClientData, client_data, Stepped, stepped, in_phase, begun, op_of, again, written, World, world, turns, left_of, IsUpdated, reply_in, replies_of, numbered, Call}
-use Rattle.update_store.specs.Running.{phase_view, Takes, IsRun, IsWritten, HasUpdated}
+use Rattle.update_store.specs.Updates.{Made, Nothing, PhaseData, Read, Run, Write, Keep, Ended, ClientData, client_data, Stepped, stepped, in_phase, begun, op_of, again, written, World, world, turns, left_of, IsUpdated, reply_in, replies_of, numbered, Call}
+use Rattle.update_store.specs.Running.{Meaning, phase_view, Takes, IsRun, IsWritten, HasUpdated}
 use Rattle.update_store.specs.Serial.{IsSerial, AreFresh}
 use Rattle.update_store.proofs.DocumentLemmas.{chosen, passed}
 use Rattle.update_store.proofs.SerialLemmas.{client_ids, all_serial, fresh_numbered, ids_numbered}
@@ -33,72 +33,79 @@ store_of documents history = record { documents = documents; history = history }
 
 -- ---- a step
 
-module _ {R : Type 0} (ran : R → ℕ → DocData → Made) (cost : R → ℕ → DocData → ℕ) (spent : R → ℕ) where
+module _ {R : Type 0} (means : R → Meaning → Type 0) (spent : R → ℕ) where
   pub takes_in : (number : ℕ) (id : List ℕ) (retries : ℕ) (s : StoreData) (r : R) (was phase : Phase) (new : State ClientData StoreData R) → was ≡ phase
-      → Takes ran cost spent (over (client_data number id retries (phase_view phase)) s r) new → Takes ran cost spent (over (client_data number id retries (phase_view was)) s r) new
+      → Takes means spent (over (client_data number id retries (phase_view phase)) s r) new → Takes means spent (over (client_data number id retries (phase_view was)) s r) new
   takes_in number id retries s r was phase new is takes =
-      subst (λ (q : Phase). Takes ran cost spent (over (client_data number id retries (phase_view q)) s r) new) (sym is) takes
+      subst (λ (q : Phase). Takes means spent (over (client_data number id retries (phase_view q)) s r) new) (sym is) takes
 
   pub takes_read : (number : ℕ) (id : List ℕ) (retries : ℕ) (s : StoreData) (r : R) (phase : Phase) → phase_view phase ≡ begun (read id s)
-      → Takes ran cost spent (over (client_data number id retries Read) s r) (over (client_data number id retries (phase_view phase)) s r)
+      → Takes means spent (over (client_data number id retries Read) s r) (over (client_data number id retries (phase_view phase)) s r)
   takes_read number id retries s r phase is = record {
+    made = Nothing;
     is = ap (λ (q : PhaseData). stepped (client_data number id retries q) s) is;
-    asked = asked_none ran cost spent r;
+    makes = λ m h. tt;
+    asked = λ m h. asked_none means spent m r h;
   }
 
-  pub takes_run : (number : ℕ) (id : List ℕ) (retries : ℕ) (s : StoreData) (doc : DocData) (r r' : R) (phase : Phase) → IsRun ran cost spent number doc r r' phase
-      → Takes ran cost spent (over (client_data number id retries (Run doc)) s r) (over (client_data number id retries (phase_view phase)) s r')
+  pub takes_run : (number : ℕ) (id : List ℕ) (retries : ℕ) (s : StoreData) (doc : DocData) (r r' : R) (phase : Phase) → IsRun means spent number doc r r' phase
+      → Takes means spent (over (client_data number id retries (Run doc)) s r) (over (client_data number id retries (phase_view phase)) s r')
   takes_run number id retries s doc r r' phase run = record {
+    made = run.made;
     is = ap (λ (q : PhaseData). stepped (client_data number id retries q) s) run.is;
-    asked = run.asked;
+    makes = λ m h. run.makes m h;
+    asked = λ m h. run.asked m h;
   }
 
   pub takes_write : (number : ℕ) (id : List ℕ) (version : ℕ) (change : ChangeData) (retries left : ℕ) (s s' : StoreData) (r : R) (phase : Phase)
       → IsWritten number id version change retries left s s' phase
-      → Takes ran cost spent (over (client_data number id retries (Write version change)) s r) (over (client_data number id left (phase_view phase)) s' r)
-  takes_write number id version change retries left s s' r phase written = record { is = written; asked = asked_none ran cost spent r }
+      → Takes means spent (over (client_data number id retries (Write version change)) s r) (over (client_data number id left (phase_view phase)) s' r)
+  takes_write number id version change retries left s s' r phase written =
+      record { made = Nothing; is = written; makes = λ m h. tt; asked = λ m h. asked_none means spent m r h }
 
   pub takes_keep : (number : ℕ) (id : List ℕ) (retries : ℕ) (s : StoreData) (r : R) (phase : Phase) → phase_view phase ≡ Ended (none_reply id)
-      → Takes ran cost spent (over (client_data number id retries Keep) s r) (over (client_data number id retries (phase_view phase)) s r)
+      → Takes means spent (over (client_data number id retries Keep) s r) (over (client_data number id retries (phase_view phase)) s r)
   takes_keep number id retries s r phase is = record {
+    made = Nothing;
     is = ap (λ (q : PhaseData). stepped (client_data number id retries q) s) is;
-    asked = asked_none ran cost spent r;
+    makes = λ m h. tt;
+    asked = λ m h. asked_none means spent m r h;
   }
 
   pub takes_none : (number : ℕ) (id : List ℕ) (retries : ℕ) (s : StoreData) (r : R) (reply : Data)
-      → Takes ran cost spent (over (client_data number id retries (Ended reply)) s r) (over (client_data number id retries (Ended reply)) s r)
-  takes_none number id retries s r reply = record { is = refl; asked = asked_none ran cost spent r }
+      → Takes means spent (over (client_data number id retries (Ended reply)) s r) (over (client_data number id retries (Ended reply)) s r)
+  takes_none number id retries s r reply = record { made = Nothing; is = refl; makes = λ m h. tt; asked = λ m h. asked_none means spent m r h }
 
   -- ---- all of them
 
-  updated_so : (order : List ℕ) (clients tasks : List ClientData) (s : StoreData) (r : R) (w : World) (made : List Call) → tasks ≡ clients
-      → IsUpdated (ran r) order (world tasks s) w made → IsUpdated (ran r) order (world clients s) w made
-  updated_so order clients tasks s r w made same updated = subst (λ (l : List ClientData). IsUpdated (ran r) order (world l s) w made) same updated
+  updated_so : (m : Meaning) (order : List ℕ) (clients tasks : List ClientData) (s : StoreData) (w : World) (made : List Call) → tasks ≡ clients
+      → IsUpdated m.ran order (world tasks s) w made → IsUpdated m.ran order (world clients s) w made
+  updated_so m order clients tasks s w made same updated = subst (λ (l : List ClientData). IsUpdated m.ran order (world l s) w made) same updated
 
-  pub has_updated : (order : List ℕ) (clients tasks tasks' : List ClientData) (s s' : StoreData) (r r' : R) (replies : List Data)
-      → tasks ≡ clients → AllStep left_of (Takes ran cost spent) order (over tasks s r) (over tasks' s' r') → replies ≡ replies_of tasks'
-      → HasUpdated ran cost spent order clients s r replies s' r'
-  has_updated order clients tasks tasks' s s' r r' replies same all told =
-      let all_updates : Updates ran cost spent order (over tasks s r) (over tasks' s' r') = updates ran cost spent order (over tasks s r) (over tasks' s' r') all in
+  pub has_updated : (m : Meaning) (order : List ℕ) (clients tasks tasks' : List ClientData) (s s' : StoreData) (r r' : R) (replies : List Data) → means r m
+      → tasks ≡ clients → AllStep left_of (Takes means spent) order (over tasks s r) (over tasks' s' r') → replies ≡ replies_of tasks'
+      → HasUpdated means spent m order clients s r replies s' r'
+  has_updated m order clients tasks tasks' s s' r r' replies h same all told =
+      let all_updates : Updates means spent m order (over tasks s r) (over tasks' s' r') = updates means spent m order (over tasks s r) (over tasks' s' r') h all in
       record {
         last = world tasks' s';
         made = all_updates.made;
-        updated = updated_so order clients tasks s r (world tasks' s') all_updates.made same all_updates.updated;
+        updated = updated_so m order clients tasks s (world tasks' s') all_updates.made same all_updates.updated;
         left = refl;
         told = told;
         asked = all_updates.asked;
       }
 
-  pub is_serial : (order : List ℕ) (clients : List Client) (tasks tasks' : List ClientData) (s s' : StoreData) (r r' : R)
-      → tasks ≡ numbered 0 clients → AllStep left_of (Takes ran cost spent) order (over tasks s r) (over tasks' s' r')
-      → IsSerial (ran r) (map (λ (c : Client). string_bytes c.id) clients) s s'
-  is_serial order clients tasks tasks' s s' r r' same all =
-      let all_updates : Updates ran cost spent order (over tasks s r) (over tasks' s' r') = updates ran cost spent order (over tasks s r) (over tasks' s' r') all in
+  pub is_serial : (m : Meaning) (order : List ℕ) (clients : List Client) (tasks tasks' : List ClientData) (s s' : StoreData) (r r' : R) → means r m
+      → tasks ≡ numbered 0 clients → AllStep left_of (Takes means spent) order (over tasks s r) (over tasks' s' r')
+      → IsSerial m.ran (map (λ (c : Client). string_bytes c.id) clients) s s'
+  is_serial m order clients tasks tasks' s s' r r' h same all =
+      let all_updates : Updates means spent m order (over tasks s r) (over tasks' s' r') = updates means spent m order (over tasks s r) (over tasks' s' r') h all in
       let numbers = order ++ rounds all_updates.updated.count (length tasks) in
       let fresh : AreFresh 0 tasks = subst (λ (l : List ClientData). AreFresh 0 l) (sym same) (fresh_numbered 0 clients) in
-      let serial : IsSerial (ran r) (client_ids tasks) s (turns (ran r) numbers (world tasks s)).store = all_serial (ran r) numbers (world tasks s) fresh in
-      subst (λ (ids : List (List ℕ)). IsSerial (ran r) ids s s') (ap client_ids same ∙ ids_numbered 0 clients)
-      (subst (λ (t : StoreData). IsSerial (ran r) (client_ids tasks) s t) (sym (ap (λ (w : World). w.store) all_updates.updated.is)) serial)
+      let serial : IsSerial m.ran (client_ids tasks) s (turns m.ran numbers (world tasks s)).store = all_serial m.ran numbers (world tasks s) fresh in
+      subst (λ (ids : List (List ℕ)). IsSerial m.ran ids s s') (ap client_ids same ∙ ids_numbered 0 clients)
+      (subst (λ (t : StoreData). IsSerial m.ran (client_ids tasks) s t) (sym (ap (λ (w : World). w.store) all_updates.updated.is)) serial)
 
 -- ---- a commit
 

@@ -8,7 +8,7 @@ use Rattle.update_store.specs.Documents.{DocData, ChangeData, version_at}
 use Rattle.update_store.specs.Committing.{StoreData, read, committed}
 use Rattle.update_store.specs.Replies.{change_reply}
 use Rattle.update_store.specs.Updates.{Made, Writes, Nothing, Fails, PhaseData, Read, Run, Write, Keep, Ended, ClientData, Stepped, stepped, in_phase, begun, run_made, op_of, again, step_in, step, World, world, put_before, turn, turns, Call, calls_in, calls_at, calls, left_in, left_of, has_ended, IsUpdated}
-use Rattle.update_store.specs.Running.{counted, paid, Asked, Takes}
+use Rattle.update_store.specs.Running.{Meaning, MakesIn, always, counted, paid, Asked, Takes}
 use Rattle.update_store.proofs.DocumentLemmas.{chosen, passed}
 
 -- ---- what is left
@@ -99,90 +99,94 @@ paid_append cost (x ∷ xs) ys spent = paid_append cost xs ys (counted spent (co
 
 -- ---- with a runner
 
-module _ {R : Type 0} (ran : R → ℕ → DocData → Made) (cost : R → ℕ → DocData → ℕ) (spent : R → ℕ) where
-  pub asked_none : (r : R) → Asked ran cost spent [] r r
-  asked_none r = record { means = refl; costs = refl; pays = refl }
+-- what is made of the document of a client decides its step
+same_step : (phase : PhaseData) (ran : ℕ → DocData → Made) (made : Made) (c : ClientData) (s : StoreData) → MakesIn phase ran c.number made → step_in phase (always made) c s ≡ step_in phase ran c s
+same_step Read ran made c s is = refl
+same_step (Run doc) ran made c s is = ap (λ (x : Made). stepped (in_phase (run_made doc x) c) s) (sym is)
+same_step (Write version change) ran made c s is = refl
+same_step Keep ran made c s is = refl
+same_step (Ended reply) ran made c s is = refl
 
-  asked_on : (xs ys : List Call) (r mid r' : R) → Asked ran cost spent xs r mid → Asked ran cost spent ys mid r' → Asked ran cost spent (xs ++ ys) r r'
-  asked_on xs ys r mid r' first second = record {
-    means = second.means ∙ first.means;
-    costs = second.costs ∙ first.costs;
-    pays =
-        second.pays ∙ ap (λ (f : ℕ → DocData → ℕ). paid f ys (spent mid)) first.costs ∙ ap (paid (cost r) ys) first.pays ∙ sym (paid_append (cost r) xs ys (spent r));
-  }
-
-  pub took : (old new : State ClientData StoreData R) → 0 < left_of old.tasks → Takes ran cost spent old new → IsStep left_of (Takes ran cost spent) old new
+module _ {R : Type 0} (means : R → Meaning → Type 0) (spent : R → ℕ) where
+  pub took : (old new : State ClientData StoreData R) → 0 < left_of old.tasks → Takes means spent old new → IsStep left_of (Takes means spent) old new
   took old new some takes = record {
     taken = takes;
     lower =
         subst (λ (n : ℕ). n < left_of old.tasks) (sym (ap (λ (t : Stepped). left_of t.client) takes.is))
-        (step_lower old.tasks.phase (ran old.runner) old.tasks old.shared some);
+        (step_lower old.tasks.phase (always takes.made) old.tasks old.shared some);
   }
 
-  record IsTurn (place : ℕ) (old new : State (List ClientData) StoreData R) : Type 0 where
-    pub is : world new.tasks new.shared ≡ turn (ran old.runner) place old.tasks old.shared
-    pub asked : Asked ran cost spent (calls_at place old.tasks) old.runner new.runner
+  pub asked_none : (m : Meaning) (r : R) → means r m → Asked means spent m [] r r
+  asked_none m r h = record { still = h; pays = refl }
 
-  is_turn : (place : ℕ) (old new : State (List ClientData) StoreData R) → HasTurn left_of (Takes ran cost spent) place old new → IsTurn place old new
-  is_turn place old new (inl (none, same)) =
-      let idle = idle_turn (ran old.runner) place old.tasks old.shared none in
-      record {
-        is = ap (λ (t : State (List ClientData) StoreData R). world t.tasks t.shared) same ∙ sym idle.0;
-        asked =
-            subst (λ (l : List Call). Asked ran cost spent l old.runner new.runner) (sym idle.1)
-            (subst (λ (t : State (List ClientData) StoreData R). Asked ran cost spent [] old.runner t.runner) (sym same) (asked_none old.runner));
-      }
-  is_turn place old new (inr steps) =
-      let one = steps.taken.taken in
-      record {
-        is =
-            ap (λ (l : List ClientData). world l new.shared) steps.left
-            ∙ ap (λ (t : Stepped). world (steps.front ++ t.client ∷ steps.behind) t.store) one.is
-            ∙ sym (turn_at (ran old.runner) steps.front steps.before steps.behind old.shared)
-            ∙ ap (λ (l : List ClientData). turn (ran old.runner) (length steps.front) l old.shared) (sym steps.found)
-            ∙ ap (λ (n : ℕ). turn (ran old.runner) n old.tasks old.shared) steps.stands;
-        asked =
-            subst (λ (l : List Call). Asked ran cost spent l old.runner new.runner)
-            (sym (calls_here steps.front steps.before steps.behind) ∙ ap (λ (l : List ClientData). calls_at (length steps.front) l) (sym steps.found)
-            ∙ ap (λ (n : ℕ). calls_at n old.tasks) steps.stands)
-            one.asked;
-      }
+  module _ (m : Meaning) where
+    asked_on : (xs ys : List Call) (r mid r' : R) → Asked means spent m xs r mid → Asked means spent m ys mid r' → Asked means spent m (xs ++ ys) r r'
+    asked_on xs ys r mid r' first second = record {
+      still = second.still;
+      pays = second.pays ∙ ap (paid m.cost ys) first.pays ∙ sym (paid_append m.cost xs ys (spent r));
+    }
 
-  record AreTurns (places : List ℕ) (old new : State (List ClientData) StoreData R) : Type 0 where
-    pub is : world new.tasks new.shared ≡ turns (ran old.runner) places (world old.tasks old.shared)
-    pub asked : Asked ran cost spent (calls (ran old.runner) places (world old.tasks old.shared)) old.runner new.runner
+    record IsTurn (place : ℕ) (old new : State (List ClientData) StoreData R) : Type 0 where
+      pub is : world new.tasks new.shared ≡ turn m.ran place old.tasks old.shared
+      pub asked : Asked means spent m (calls_at place old.tasks) old.runner new.runner
 
-  are_turns : (places : List ℕ) (old new : State (List ClientData) StoreData R) → HaveTurns left_of (Takes ran cost spent) places old new → AreTurns places old new
-  are_turns [] old new same = record {
-    is = ap (λ (t : State (List ClientData) StoreData R). world t.tasks t.shared) same;
-    asked = subst (λ (t : State (List ClientData) StoreData R). Asked ran cost spent [] old.runner t.runner) (sym same) (asked_none old.runner);
-  }
-  are_turns (place ∷ places) old new (mid, one, more) =
-      let first : IsTurn place old mid = is_turn place old mid one in
-      let rest : AreTurns places mid new = are_turns places mid new more in
-      record {
-        is =
-            rest.is ∙ ap (λ (f : ℕ → DocData → Made). turns f places (world mid.tasks mid.shared)) first.asked.means
-            ∙ ap (turns (ran old.runner) places) first.is;
-        asked =
-            asked_on (calls_at place old.tasks) (calls (ran old.runner) places (turn (ran old.runner) place old.tasks old.shared)) old.runner mid.runner new.runner first.asked
-            (subst (λ (l : List Call). Asked ran cost spent l mid.runner new.runner)
-            (ap (λ (f : ℕ → DocData → Made). calls f places (world mid.tasks mid.shared)) first.asked.means ∙ ap (calls (ran old.runner) places) first.is)
-            rest.asked);
-      }
+    is_turn : (place : ℕ) (old new : State (List ClientData) StoreData R) → means old.runner m → HasTurn left_of (Takes means spent) place old new → IsTurn place old new
+    is_turn place old new h (inl (none, same)) =
+        let idle = idle_turn m.ran place old.tasks old.shared none in
+        record {
+          is = ap (λ (t : State (List ClientData) StoreData R). world t.tasks t.shared) same ∙ sym idle.0;
+          asked =
+              subst (λ (l : List Call). Asked means spent m l old.runner new.runner) (sym idle.1)
+              (subst (λ (t : State (List ClientData) StoreData R). Asked means spent m [] old.runner t.runner) (sym same) (asked_none m old.runner h));
+        }
+    is_turn place old new h (inr steps) =
+        let one = steps.taken.taken in
+        let taken = one.is ∙ same_step steps.before.phase m.ran one.made steps.before old.shared (one.makes m h) in
+        record {
+          is =
+              ap (λ (l : List ClientData). world l new.shared) steps.left
+              ∙ ap (λ (t : Stepped). world (steps.front ++ t.client ∷ steps.behind) t.store) taken
+              ∙ sym (turn_at m.ran steps.front steps.before steps.behind old.shared)
+              ∙ ap (λ (l : List ClientData). turn m.ran (length steps.front) l old.shared) (sym steps.found)
+              ∙ ap (λ (n : ℕ). turn m.ran n old.tasks old.shared) steps.stands;
+          asked =
+              subst (λ (l : List Call). Asked means spent m l old.runner new.runner)
+              (sym (calls_here steps.front steps.before steps.behind) ∙ ap (λ (l : List ClientData). calls_at (length steps.front) l) (sym steps.found)
+              ∙ ap (λ (n : ℕ). calls_at n old.tasks) steps.stands)
+              (one.asked m h);
+        }
 
-  -- what the turns of all clients come to
-  pub record Updates (order : List ℕ) (old new : State (List ClientData) StoreData R) : Type 0 where
-    pub made : List Call
-    pub updated : IsUpdated (ran old.runner) order (world old.tasks old.shared) (world new.tasks new.shared) made
-    pub asked : Asked ran cost spent made old.runner new.runner
+    record AreTurns (places : List ℕ) (old new : State (List ClientData) StoreData R) : Type 0 where
+      pub is : world new.tasks new.shared ≡ turns m.ran places (world old.tasks old.shared)
+      pub asked : Asked means spent m (calls m.ran places (world old.tasks old.shared)) old.runner new.runner
 
-  pub updates : (order : List ℕ) (old new : State (List ClientData) StoreData R) → AllStep left_of (Takes ran cost spent) order old new → Updates order old new
-  updates order old new all =
-      let places = order ++ rounds all.count (length old.tasks) in
-      let turned : AreTurns places old new = are_turns places old new all.turns in
-      record {
-        made = calls (ran old.runner) places (world old.tasks old.shared);
-        updated = record { count = all.count; is = turned.is; called = refl; ended = all.done };
-        asked = turned.asked;
-      }
+    are_turns : (places : List ℕ) (old new : State (List ClientData) StoreData R) → means old.runner m → HaveTurns left_of (Takes means spent) places old new → AreTurns places old new
+    are_turns [] old new h same = record {
+      is = ap (λ (t : State (List ClientData) StoreData R). world t.tasks t.shared) same;
+      asked = subst (λ (t : State (List ClientData) StoreData R). Asked means spent m [] old.runner t.runner) (sym same) (asked_none m old.runner h);
+    }
+    are_turns (place ∷ places) old new h (mid, one, more) =
+        let first : IsTurn place old mid = is_turn place old mid h one in
+        let rest : AreTurns places mid new = are_turns places mid new first.asked.still more in
+        record {
+          is = rest.is ∙ ap (turns m.ran places) first.is;
+          asked =
+              asked_on (calls_at place old.tasks) (calls m.ran places (turn m.ran place old.tasks old.shared)) old.runner mid.runner new.runner first.asked
+              (subst (λ (l : List Call). Asked means spent m l mid.runner new.runner) (ap (calls m.ran places) first.is) rest.asked);
+        }
+
+    -- what the turns of all clients come to
+    pub record Updates (order : List ℕ) (old new : State (List ClientData) StoreData R) : Type 0 where
+      pub made : List Call
+      pub updated : IsUpdated m.ran order (world old.tasks old.shared) (world new.tasks new.shared) made
+      pub asked : Asked means spent m made old.runner new.runner
+
+    pub updates : (order : List ℕ) (old new : State (List ClientData) StoreData R) → means old.runner m → AllStep left_of (Takes means spent) order old new → Updates order old new
+    updates order old new h all =
+        let places = order ++ rounds all.count (length old.tasks) in
+        let turned : AreTurns places old new = are_turns places old new h all.turns in
+        record {
+          made = calls m.ran places (world old.tasks old.shared);
+          updated = record { count = all.count; is = turned.is; called = refl; ended = all.done };
+          asked = turned.asked;
+        }

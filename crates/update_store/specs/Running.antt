@@ -38,28 +38,48 @@ OnRan r.NoMemory fact = Unit {0}
 abbrev pub counted : ℕ → ℕ → ℕ
 counted spent more = min (spent + more) (2 ^ 64 - 1)
 
+-- What scripts make: what that of each client makes of a document, and what a run of it costs.
+pub record Meaning : Type 0 where
+  pub ran : ℕ → DocData → Made
+  pub cost : ℕ → DocData → ℕ
+
 -- What is spent after these calls.
 abbrev pub paid : (ℕ → DocData → ℕ) → List Call → ℕ → ℕ
 paid cost [] spent = spent
 paid cost (call ∷ more) spent = paid cost more (counted spent (cost call.client call.doc))
 
 -- A runner was asked for these calls: it means what it meant, and their costs were paid.
-pub record Asked {R : Type 0} (ran : R → ℕ → DocData → Made) (cost : R → ℕ → DocData → ℕ) (spent : R → ℕ) (calls : List Call) (old new : R) : Type 0 where
-  pub means : ran new ≡ ran old
-  pub costs : cost new ≡ cost old
-  pub pays : spent new ≡ paid (cost old) calls (spent old)
+pub record Asked {R : Type 0} (means : R → Meaning → Type 0) (spent : R → ℕ) (m : Meaning) (calls : List Call) (old new : R) : Type 0 where
+  pub still : means new m
+  pub pays : spent new ≡ paid m.cost calls (spent old)
 
 -- ---- steps of the code
 
--- What a step makes of a client, the store and the runner.
-pub record Takes {R : Type 0} (ran : R → ℕ → DocData → Made) (cost : R → ℕ → DocData → ℕ) (spent : R → ℕ) (old new : State ClientData StoreData R) : Type 0 where
-  pub is : stepped new.tasks new.shared ≡ step (ran old.runner) old.tasks old.shared
-  pub asked : Asked ran cost spent (calls_in old.tasks.phase old.tasks.number) old.runner new.runner
+-- A client whose script is run next has this made of its document.
+abbrev pub MakesIn : PhaseData → (ℕ → DocData → Made) → ℕ → Made → Type 0
+MakesIn (Run doc) ran number made = ran number doc ≡ made
+MakesIn Read ran number made = Unit {0}
+MakesIn (Write version change) ran number made = Unit {0}
+MakesIn Keep ran number made = Unit {0}
+MakesIn (Ended reply) ran number made = Unit {0}
+
+-- scripts that make this of each document
+abbrev pub always : Made → ℕ → DocData → Made
+always made number doc = made
+
+-- What a step makes of a client, the store and the runner, whatever the runner means.
+pub record Takes {R : Type 0} (means : R → Meaning → Type 0) (spent : R → ℕ) (old new : State ClientData StoreData R) : Type 0 where
+  pub made : Made
+  pub is : stepped new.tasks new.shared ≡ step (always made) old.tasks old.shared
+  pub makes : (m : Meaning) → means old.runner m → MakesIn old.tasks.phase m.ran old.tasks.number made
+  pub asked : (m : Meaning) → means old.runner m → Asked means spent m (calls_in old.tasks.phase old.tasks.number) old.runner new.runner
 
 -- What a run of the script makes of a client that has read a document.
-pub record IsRun {R : Type 0} (ran : R → ℕ → DocData → Made) (cost : R → ℕ → DocData → ℕ) (spent : R → ℕ) (number : ℕ) (doc : DocData) (old new : R) (phase : Phase) : Type 0 where
-  pub is : phase_view phase ≡ run_made doc (ran old number doc)
-  pub asked : Asked ran cost spent ((record { client = number; doc = doc }) ∷ []) old new
+pub record IsRun {R : Type 0} (means : R → Meaning → Type 0) (spent : R → ℕ) (number : ℕ) (doc : DocData) (old new : R) (phase : Phase) : Type 0 where
+  pub made : Made
+  pub is : phase_view phase ≡ run_made doc made
+  pub makes : (m : Meaning) → means old m → m.ran number doc ≡ made
+  pub asked : (m : Meaning) → means old m → Asked means spent m ((record { client = number; doc = doc }) ∷ []) old new
 
 -- What a conflict makes of a client, which has so many retries left then.
 abbrev pub BeginsAgain : ℕ → ℕ → ℕ → ℕ → Phase → Type 0
@@ -73,10 +93,10 @@ IsWritten number id version change retries left old new phase =
 -- ---- all of them
 
 -- The clients were run to their ends, and these are their replies. The runner was asked for exactly the calls that their steps make.
-pub record HasUpdated {R : Type 0} (ran : R → ℕ → DocData → Made) (cost : R → ℕ → DocData → ℕ) (spent : R → ℕ) (order : List ℕ) (clients : List ClientData) (store : StoreData) (old : R) (replies : List Data) (after : StoreData) (new : R) : Type 0 where
+pub record HasUpdated {R : Type 0} (means : R → Meaning → Type 0) (spent : R → ℕ) (m : Meaning) (order : List ℕ) (clients : List ClientData) (store : StoreData) (old : R) (replies : List Data) (after : StoreData) (new : R) : Type 0 where
   pub last : World
   pub made : List Call
-  pub updated : IsUpdated (ran old) order (world clients store) last made
+  pub updated : IsUpdated m.ran order (world clients store) last made
   pub left : after ≡ last.store
   pub told : replies ≡ replies_of last.clients
-  pub asked : Asked ran cost spent made old new
+  pub asked : Asked means spent m made old new

@@ -1,9 +1,8 @@
 //! What runs the script.
 
 ghost use Rattle.std.specs.Prelude.{◌≡◌, ℕ};
-ghost use Rattle.update_store.specs.Documents.{DocData, doc_view};
-ghost use Rattle.update_store.specs.Updates.{Made};
-ghost use Rattle.update_store.specs.Running.{OnRan, RanMeans, counted};
+ghost use Rattle.update_store.specs.Documents.{doc_view};
+ghost use Rattle.update_store.specs.Running.{Meaning, OnRan, RanMeans, counted};
 
 use crate::document::{Change, Doc};
 use serde_json::Value;
@@ -21,22 +20,19 @@ pub enum Ran {
     NoMemory,
 }
 
-/// What runs the script for a client over the document that it has read. Its meanings say what the script makes of each document
-/// for each client and what that costs; no call changes them, and `spent` counts what the calls cost.
+/// What runs the script for a client over the document that it has read. It says what the script makes of each document for each
+/// client and what that costs: no call changes what a runner means, and `spent` counts what the calls cost. A runner whose script is
+/// known by how its runs end means each function that gives these ends.
 pub trait UpdateRun {
-    /// What the script makes of a document for a client.
-    ghost ran: { Self → ℕ → DocData → Made };
-
-    /// What a call costs.
-    ghost cost: { Self → ℕ → DocData → ℕ };
+    /// This is what it means.
+    ghost means: { Self → Meaning → Type 0 };
 
     /// What was spent so far. The count stands still at 2^64 - 1.
     ghost spent: { Self → ℕ };
 
     /// Runs the script for the client of a number.
     fn run(&mut self, client: u32, doc: &Doc) -> Ran
-        ensures answers { RanMeans (ran self.old client (doc_view doc.now)) result }
-        ensures ran { ran self.new ≡ ran self.old }
-        ensures cost { cost self.new ≡ cost self.old }
-        ensures spent { OnRan result (spent self.new ≡ counted (spent self.old) (cost self.old client (doc_view doc.now))) };
+        ensures answers { (m : Meaning) → means self.old m → RanMeans (m.ran client (doc_view doc.now)) result }
+        ensures still { (m : Meaning) → means self.old m → means self.new m }
+        ensures spent { (m : Meaning) → means self.old m → OnRan result (spent self.new ≡ counted (spent self.old) (m.cost client (doc_view doc.now))) };
 }

@@ -3,7 +3,7 @@
 ghost use Rattle.std.specs.Prelude.{◌≡◌, ◌<◌, ◌^◌, IfOk, OnOk, length, map, string_bytes};
 ghost use Rattle.serde_json.specs.View.{view};
 ghost use Rattle.update_store.specs.Updates.{numbered, replies_of};
-ghost use Rattle.update_store.specs.Running.{HasUpdated};
+ghost use Rattle.update_store.specs.Running.{HasUpdated, Meaning};
 ghost use Rattle.update_store.specs.Serial.{IsSerial};
 
 use crate::client::Client;
@@ -33,8 +33,8 @@ pub fn run_updates<R: UpdateRun>(
     order: &[u32],
 ) -> Result<Vec<Value>, AllocError>
     requires { length clients.items < 2 ^ 32 }
-    ensures updated { IfOk result (λ replies. HasUpdated R.ran R.cost R.spent order.now (numbered 0 clients.items) store.old runner.old (map view replies.items) store.new runner.new) }
-    ensures serial { OnOk result (IsSerial (R.ran runner.old) (map (λ client. string_bytes client.id) clients.items) store.old store.new) }
+    ensures updated { (m : Meaning) → R.means runner.old m → IfOk result (λ replies. HasUpdated R.means R.spent m order.now (numbered 0 clients.items) store.old runner.old (map view replies.items) store.new runner.new) }
+    ensures serial { (m : Meaning) → R.means runner.old m → OnOk result (IsSerial m.ran (map (λ client. string_bytes client.id) clients.items) store.old store.new) }
 {
     let mut tasks = tasks_of(store.alloc(), clients)?;
     run_order_with(store, runner, &mut tasks, order)?;

@@ -77,7 +77,7 @@ impl ClientTask {
 impl<R: UpdateRun> Step<Store, R> for ClientTask {
     ghost rest = { left_of };
 
-    ghost step = { Takes R.ran R.cost R.spent };
+    ghost step = { Takes R.means R.spent };
 
     fn is_done(&self) -> bool {
         has_ended(&self.phase)
@@ -114,7 +114,7 @@ fn next<R: UpdateRun>(
     store: &mut Store,
     runner: &mut R,
 ) -> Result<Phase, AllocError>
-    ensures { IfOk result (λ next. Takes R.ran R.cost R.spent
+    ensures { IfOk result (λ next. Takes R.means R.spent
         (over (client_data number id.now retries.old (phase_view phase)) store.old runner.old)
         (over (client_data number id.now retries.new (phase_view next)) store.new runner.new)) }
 {
@@ -145,7 +145,7 @@ fn begin(id: &str, store: &Store) -> Result<Phase, AllocError>
 
 /// Runs the script over a document.
 fn run<R: UpdateRun>(number: u32, doc: &Doc, runner: &mut R) -> Result<Phase, AllocError>
-    ensures { IfOk result (IsRun R.ran R.cost R.spent number (doc_view doc.now) runner.old runner.new) }
+    ensures { IfOk result (IsRun R.means R.spent number (doc_view doc.now) runner.old runner.new) }
 {
     match runner.run(number, doc) {
         Ran::Write(change) => Ok(Phase::Write(doc.version, change)),

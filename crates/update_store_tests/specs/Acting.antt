@@ -1,10 +1,10 @@
 -- What scripts make of documents whose answers are fixed.
-use Rattle.std.specs.Prelude.{ℕ, List, codes, slice_get, unwrap_or, option_and_then}
+use Rattle.std.specs.Prelude.{◌≡◌, ℕ, List, codes, slice_get, unwrap_or, option_and_then}
 use Rattle.serde_json.specs.Data.{Data, number, string, object, unsigned, member, no_members}
 use Rattle.serde_json.specs.Find.{get, as_number, as_u64}
 use Rattle.update_store.specs.Documents.{DocData, Index, Delete}
 use Rattle.update_store.specs.Updates.{Made, Writes, Nothing, Fails}
-use Rattle.update_store.specs.Running.{counted}
+use Rattle.update_store.specs.Running.{Meaning, counted}
 use Rattle.update_store_tests.specs.declared.acting.Act.{Act}
 use Rattle.update_store_tests.specs.declared.acting.Act.TheVariants as act
 
@@ -29,3 +29,7 @@ acted act.Fail doc = Fails error
 -- what a client's script does: one of which nothing is said keeps its document
 abbrev pub act_of : List Act → ℕ → Act
 act_of acts client = unwrap_or (slice_get acts client) act.Keep
+
+-- scripts of clients that do this
+abbrev pub ActsSo : List Act → Meaning → Type 0
+ActsSo acts m = (client : ℕ) (doc : DocData) → (m.ran client doc ≡ acted (act_of acts client) doc) × (m.cost client doc ≡ number_of doc.source)

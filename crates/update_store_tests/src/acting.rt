@@ -4,7 +4,7 @@ ghost use Rattle.std.specs.Prelude.{◌≡◌, IfOk};
 ghost use Rattle.serde_json.specs.View.{view};
 ghost use Rattle.update_store.specs.Documents.{doc_view};
 ghost use Rattle.update_store.specs.Running.{RanMeans};
-ghost use Rattle.update_store_tests.specs.Acting.{act_of, acted, error, number_of, with_number};
+ghost use Rattle.update_store_tests.specs.Acting.{ActsSo, act_of, acted, error, number_of, with_number};
 
 use serde_json::{Value, json};
 use std::alloc::{AllocError, Global};
@@ -83,9 +83,7 @@ pub(crate) fn act_of(acts: &[Act], client: usize) -> Act
 }
 
 impl<'a> UpdateRun for Acting<'a> {
-    ghost ran = { λ it client doc. acted (act_of it.acts.now client) doc };
-
-    ghost cost = { λ _ _ doc. number_of doc.source };
+    ghost means = { λ it m. ActsSo it.acts.now m };
 
     ghost spent = { λ it. it.spent };
 

@@ -18,3 +18,7 @@ returns-in-Number c = search rules
 pub returns-in-Field : goal.returns-in-Field
 unfolding serde_json_on_literals
 returns-in-Field c = search rules
+
+pub returns-in-Limit : goal.returns-in-Limit
+unfolding serde_json_on_literals
+returns-in-Limit c = search rules
