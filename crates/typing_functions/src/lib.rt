@@ -1,0 +1,10 @@
+//! Function values: which of them a place takes, and what they come to.
+#![tactic(auto)]
+
+mod nodes;
+pub mod references;
+mod refuse;
+pub mod wanted;
+mod words;
+
+pub use wanted::{Callee, Wanted};
