@@ -1,2 +1,4 @@
 pub mod Wanted
 pub mod References
+pub mod Bodies
+pub mod Chosen

@@ -1,6 +1,8 @@
 //! Function values: which of them a place takes, and what they come to.
 #![tactic(auto)]
 
+pub mod bodies;
+pub mod chosen;
 mod nodes;
 pub mod references;
 mod refuse;
