@@ -1,5 +1,5 @@
 -- `this::f`: the lambda that calls f.
-use Rattle.std.specs.Prelude.{ℕ, ◌+◌, Bool, List, [], ◌∷◌, ◌++◌, map, length, drop, position, bytes_eq, slice_get, Option, Some, None, Ok, if◌then◌else◌}
+use Rattle.std.specs.Prelude.{ℕ, Bool, false, List, [], ◌∷◌, ◌++◌, map, length, drop, position, bytes_eq, slice_get, Option, Some, None, Ok, if◌then◌else◌}
 use Rattle.std.specs.List.{list_any}
 use Rattle.pl_types.specs.declared.rules.TheConstants.{UNKNOWN_FUNCTION, BAD_FUNCTION_VALUE}
 use Rattle.allowlist.specs.declared.member.MemberType.{MemberType}
@@ -27,9 +27,14 @@ abbrev pub there : Option ℕ → ℕ → Out ℕ
 there None at = refuse UNKNOWN_FUNCTION at
 there (Some number) at = Ok number
 
+-- whether there is one in what stands behind the first
+abbrev pub has_other : List ℕ → List Header → Bool
+has_other name [] = false
+has_other name (h ∷ hs) = list_any (has_name name) hs
+
 -- the one function of a name; of several none is meant
 abbrev pub alone : List Header → List ℕ → ℕ → ℕ → Out ℕ
-alone headers name at number = if list_any (has_name name) (drop (number + 1) headers) then refuse BAD_FUNCTION_VALUE at else Ok number
+alone headers name at number = if has_other name (drop number headers) then refuse BAD_FUNCTION_VALUE at else Ok number
 
 abbrev pub only : List Header → List ℕ → ℕ → Out ℕ
 only headers name at = bind (there (position (has_name name) headers) at) (λ number. alone headers name at number)
@@ -60,14 +65,18 @@ argument at x = plain at (typed at x.of (n.Local x.name))
 abbrev pub arguments : ℕ → List Named → List Part
 arguments at xs = map (argument at) xs
 
+abbrev pub answering : ℕ → Option MemberType → List Named → Part → Out TypedFunction
+answering at method xs x = bind (bodies.answered at method x) (λ y. bodies.function_of at [] xs (result_type method) (y ∷ []))
+
 abbrev pub calling : List Header → ℕ → List ℕ → Option MemberType → List Named → Out TypedFunction
-calling headers at name method xs =
-    bind (call_of headers at name (arguments at xs)) (λ x. bind (bodies.answered at method x) (λ y. bodies.function_of at [] xs (result_type method) (y ∷ [])))
+calling headers at name method xs = bind (call_of headers at name (arguments at xs)) (λ x. answering at method xs x)
+
+abbrev pub calling_as : List Header → ℕ → List ℕ → Option MemberType → List Named → Out TypedFunction
+calling_as headers at name method names = calling headers at name method (parameters method names [])
 
 abbrev pub calls : AllowList → List Header → Wanted → ℕ → List ℕ → Option Header → Out TypedFunction
 calls allow headers wanted at name None = refuse UNKNOWN_FUNCTION at
-calls allow headers wanted at name (Some h) =
-    calling headers at name (method_of allow wanted (length h.parameters)) (parameters (method_of allow wanted (length h.parameters)) h.parameters [])
+calls allow headers wanted at name (Some h) = calling_as headers at name (method_of allow wanted (length h.parameters)) h.parameters
 
 -- `this::f` at `this`: which interface it has, and what it runs
 abbrev pub this_of : AllowList → List Header → Wanted → ℕ → List ℕ → Out (Option ℕ × TypedFunction)
