@@ -2,3 +2,4 @@ pub mod Wanted
 pub mod References
 pub mod Bodies
 pub mod Chosen
+pub mod Captures

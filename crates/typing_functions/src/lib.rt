@@ -2,6 +2,7 @@
 #![tactic(auto)]
 
 pub mod bodies;
+pub mod captures;
 pub mod chosen;
 mod nodes;
 pub mod references;
