@@ -3,3 +3,4 @@ pub mod References
 pub mod Bodies
 pub mod Chosen
 pub mod Captures
+pub mod Entering

@@ -4,6 +4,7 @@
 pub mod bodies;
 pub mod captures;
 pub mod chosen;
+pub mod entering;
 mod nodes;
 pub mod references;
 mod refuse;
