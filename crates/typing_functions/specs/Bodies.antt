@@ -1,7 +1,7 @@
 -- What a function value runs: a function whose parameters, and what it copies, are all of type def, and which gives a def. Its body
 -- begins with a cast for each name of another type, and each of its returns casts what it gives to the type that is wanted, and then to
 -- def.
-use Rattle.std.specs.Prelude.{ℕ, pos, Bool, true, false, ◌==◌, List, [], ◌∷◌, ◌++◌, map, length, Option, Some, None, Ok, if◌then◌else◌}
+use Rattle.std.specs.Prelude.{ℕ, pos, Bool, true, false, List, [], ◌∷◌, ◌++◌, map, length, Option, Some, None, Ok, if◌then◌else◌}
 use Rattle.pl_types.specs.declared.primitive.Primitive.{Primitive}
 use Rattle.pl_types.specs.declared.primitive.Primitive.TheVariants as p
 use Rattle.pl_types.specs.declared.ty.Ty.{Ty, out-Ty}
@@ -128,7 +128,7 @@ function_of at captured parameters of ys = bind (body_of at captured parameters 
 abbrev pub lambda_of : AllowList → Wanted → ℕ → List Named → List Named → List Step → Out (Option ℕ × TypedFunction)
 lambda_of allow wanted at captured parameters ys =
     bind (accepted allow wanted (length parameters) at) (λ interface.
-        bind (function_of at captured parameters (result_type (method_of allow wanted (length parameters))) ys) (λ f. Ok (interface, f)))
+    bind (function_of at captured parameters (result_type (method_of allow wanted (length parameters))) ys) (λ f. Ok (interface, f)))
 
 -- the value, by the number of what it runs
 abbrev pub value : Option ℕ → ℕ → ℕ → Part

@@ -82,4 +82,4 @@ calls allow headers wanted at name (Some h) = calling_as headers at name (method
 abbrev pub this_of : AllowList → List Header → Wanted → ℕ → List ℕ → Out (Option ℕ × TypedFunction)
 this_of allow headers wanted at name =
     bind (chosen allow headers wanted at name) (λ number. bind (taken wanted at) (λ interface.
-        bind (calls allow headers wanted at name (slice_get headers number)) (λ f. Ok (interface, f))))
+    bind (calls allow headers wanted at name (slice_get headers number)) (λ f. Ok (interface, f))))

@@ -1,11 +1,10 @@
 -- `T::m` and `T::new`, which are looked for when they are called.
-use Rattle.std.specs.Prelude.{ℕ, zero, suc, ◌==◌, ◌&&◌, ◌||◌, not, Bool, true, false, List, [], bytes_eq, length, Option, Some, None, slice_get, Ok, if◌then◌else◌}
+use Rattle.std.specs.Prelude.{ℕ, zero, suc, ◌==◌, ◌&&◌, ◌||◌, not, Bool, true, false, List, [], bytes_eq, length, Option, Some, None, Ok, if◌then◌else◌}
 use Rattle.std.specs.List.{list_any}
 use Rattle.pl_types.specs.declared.ty.Ty.{Ty, out-Ty}
 use Rattle.pl_types.specs.declared.ty.Ty.TheOpen.{Ty-F}
 use Rattle.pl_types.specs.declared.rules.TheConstants.{UNKNOWN_MEMBER, OUT_OF_PROFILE}
 use Rattle.listing_parts.specs.Names.{is_word}
-use Rattle.allowlist.specs.declared.member.MemberKind.{MemberKind}
 use Rattle.allowlist.specs.declared.member.MemberKind.TheVariants as kind
 use Rattle.allowlist.specs.declared.member.MemberType.{MemberType}
 use Rattle.allowlist.specs.Allow.{AllowList, member_of, is_in_prelude}

@@ -118,12 +118,7 @@ fn given_or(alloc: Global, drops: bool, at: u32, of: &Ty, x: Part) -> Result<Ste
 /// The expression behind `->`.
 ///
 /// BadCast (9): it does not go to the type that the method gives.
-pub fn answered(
-    alloc: Global,
-    at: u32,
-    method: Option<&MemberType>,
-    x: Part,
-) -> Result<Step, Fail>
+pub fn answered(alloc: Global, at: u32, method: Option<&MemberType>, x: Part) -> Result<Step, Fail>
     ensures { Keeps (spec.answered at (option_copied method.entry) x) result }
 {
     match method {

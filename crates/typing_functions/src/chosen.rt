@@ -35,7 +35,9 @@ fn there(found: Option<usize>, at: u32) -> Result<usize, Fail>
 fn first_of(headers: &[Header], name: &Text) -> Option<usize>
     ensures { result ≡ position (spec.has_name name.now) headers.now }
 {
-    headers.iter().position(|h| h.name.as_str() == name.as_str())
+    headers
+        .iter()
+        .position(|h| h.name.as_str() == name.as_str())
 }
 
 fn is_any(headers: &[Header], name: &Text) -> bool

@@ -13,8 +13,7 @@ ghost use Rattle.typing_functions.specs.References as spec;
 use crate::nodes::{copy, plain};
 use crate::refuse::refuse;
 use crate::wanted::{
-    Callee, Wanted, constructor_of, instance_of, method_in, static_of, taken,
-    value_type,
+    Callee, Wanted, constructor_of, instance_of, method_in, static_of, taken, value_type,
 };
 use crate::words::is_word;
 use allowlist::{Allow, MemberType, Origin};

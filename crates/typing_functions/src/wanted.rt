@@ -205,13 +205,21 @@ pub(crate) fn constructor_of(allow: &Allow, class: u32, count: usize) -> Callee
 pub(crate) fn instance_of(allow: &Allow, class: u32, name: &Text, count: usize) -> Callee
     ensures { result ≡ spec.member_if allow.now kind.Instance (member_of allow.now class name.now count) }
 {
-    member_if(allow, MemberKind::Instance, found(allow, class, name.as_str(), count))
+    member_if(
+        allow,
+        MemberKind::Instance,
+        found(allow, class, name.as_str(), count),
+    )
 }
 
 pub(crate) fn static_of(allow: &Allow, class: u32, name: &Text, count: usize) -> Callee
     ensures { result ≡ spec.member_if allow.now kind.Static (member_of allow.now class name.now count) }
 {
-    member_if(allow, MemberKind::Static, found(allow, class, name.as_str(), count))
+    member_if(
+        allow,
+        MemberKind::Static,
+        found(allow, class, name.as_str(), count),
+    )
 }
 
 /// What a name with so many arguments means on a value of a type.
