@@ -2,4 +2,6 @@
 #![tactic(auto)]
 
 #[cfg(test)]
+mod bodies_tests;
+#[cfg(test)]
 mod references_tests;
