@@ -11,7 +11,7 @@ fn is_blank_byte(byte: u8) -> bool
 }
 
 /// Whether a line has only such bytes.
-pub(crate) fn is_blank(line: &[u8]) -> bool
+pub fn is_blank(line: &[u8]) -> bool
     ensures { result ≡ is_blank line.now }
 {
     for at in 0..line.len() {

@@ -11,6 +11,7 @@ mod lines;
 mod script;
 mod search;
 
+pub use blank::is_blank;
 pub use change::ChangeContext;
 pub use context::{BoundLine, LineContext};
 pub use job::{DocumentJob, DocumentScratch};
