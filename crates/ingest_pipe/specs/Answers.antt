@@ -15,7 +15,7 @@ use Rattle.ingest_pipe.specs.declared.running.PipeEnd.{PipeEnd}
 use Rattle.ingest_pipe.specs.declared.running.PipeEnd.TheVariants as e
 use Rattle.ingest_pipe.specs.declared.running.Outcome.{Outcome}
 use Rattle.ingest_pipe.specs.declared.running.Outcome.TheVariants as o
-use Rattle.ingest_pipe.specs.Running.{Judged, Holds, Lacks, TestErrs, Made, Gives, Drops, Fails, Call, Ran, piped, paid}
+use Rattle.ingest_pipe.specs.Running.{Judged, Holds, Lacks, TestErrs, Meaning, Made, Gives, Drops, Fails, Call, Ran, piped, paid}
 
 -- ---- a runner's answers; want of memory is free
 
@@ -44,23 +44,21 @@ OnChanged c.NoMemory fact = Unit {0}
 
 -- ---- a run's answers
 
--- A runner was asked for these calls: it means what it meant, and their costs were paid.
-pub record Asked {R : Type 0} (tested : R → ℕ → DocData → Judged) (changed : R → ℕ → DocData → Edited) (cost : R → ℕ → DocData → ℕ) (spent : R → ℕ) (calls : List Call) (old new : R) : Type 0 where
-  pub tests : tested new ≡ tested old
-  pub changes : changed new ≡ changed old
-  pub costs : cost new ≡ cost old
-  pub pays : spent new ≡ paid (cost old) calls (spent old)
+-- A runner that has a meaning was asked for these calls: it has it still, and their costs were paid.
+pub record Asked {R : Type 0} (meant : R → Meaning → Type 0) (spent : R → ℕ) (m : Meaning) (calls : List Call) (old new : R) : Type 0 where
+  pub stays : meant new m
+  pub pays : spent new ≡ paid m.cost calls (spent old)
 
-pub record IsRan {R : Type 0} (tested : R → ℕ → DocData → Judged) (changed : R → ℕ → DocData → Edited) (cost : R → ℕ → DocData → ℕ) (spent : R → ℕ) (ran : Ran) (old new : R) (made : Made) : Type 0 where
+pub record IsRan {R : Type 0} (meant : R → Meaning → Type 0) (spent : R → ℕ) (m : Meaning) (ran : Ran) (old new : R) (made : Made) : Type 0 where
   pub is : ran.made ≡ made
-  pub asked : Asked tested changed cost spent ran.calls old new
+  pub asked : Asked meant spent m ran.calls old new
 
 -- how processors end, with the document that they leave; nothing is said where memory is wanting
-abbrev pub IsOutcome : {R : Type 0} → (R → ℕ → DocData → Judged) → (R → ℕ → DocData → Edited) → (R → ℕ → DocData → ℕ) → (R → ℕ) → Ran → R → R → IngestDoc → Outcome → Type 0
-IsOutcome tested changed cost spent ran old new left o.Passed = IsRan tested changed cost spent ran old new (Gives (doc_view left))
-IsOutcome tested changed cost spent ran old new left o.Dropped = IsRan tested changed cost spent ran old new (Drops (doc_view left))
-IsOutcome tested changed cost spent ran old new left (o.Failed error) = IsRan tested changed cost spent ran old new (Fails (view error))
-IsOutcome tested changed cost spent ran old new left o.NoMemory = Unit {0}
+abbrev pub IsOutcome : {R : Type 0} → (R → Meaning → Type 0) → (R → ℕ) → Meaning → Ran → R → R → IngestDoc → Outcome → Type 0
+IsOutcome meant spent m ran old new left o.Passed = IsRan meant spent m ran old new (Gives (doc_view left))
+IsOutcome meant spent m ran old new left o.Dropped = IsRan meant spent m ran old new (Drops (doc_view left))
+IsOutcome meant spent m ran old new left (o.Failed error) = IsRan meant spent m ran old new (Fails (view error))
+IsOutcome meant spent m ran old new left o.NoMemory = Unit {0}
 
 -- what a change of a document comes to
 abbrev pub outcome_of : Result ⊤ EditErr → Outcome
@@ -75,12 +73,12 @@ LeavesOnFailure o.Dropped before left = Unit {0}
 LeavesOnFailure (o.Failed error) before left = left ≡ before
 LeavesOnFailure o.NoMemory before left = Unit {0}
 
-abbrev pub IsEnd : {R : Type 0} → (R → ℕ → DocData → Judged) → (R → ℕ → DocData → Edited) → (R → ℕ → DocData → ℕ) → (R → ℕ) → Ran → R → R → PipeEnd → Type 0
-IsEnd tested changed cost spent ran old new (e.Kept doc) = IsRan tested changed cost spent ran old new (Gives (doc_view doc))
-IsEnd tested changed cost spent ran old new (e.Dropped doc) = IsRan tested changed cost spent ran old new (Drops (doc_view doc))
-IsEnd tested changed cost spent ran old new (e.Failed error) = IsRan tested changed cost spent ran old new (Fails (view error))
-IsEnd tested changed cost spent ran old new e.NoMemory = Unit {0}
+abbrev pub IsEnd : {R : Type 0} → (R → Meaning → Type 0) → (R → ℕ) → Meaning → Ran → R → R → PipeEnd → Type 0
+IsEnd meant spent m ran old new (e.Kept doc) = IsRan meant spent m ran old new (Gives (doc_view doc))
+IsEnd meant spent m ran old new (e.Dropped doc) = IsRan meant spent m ran old new (Drops (doc_view doc))
+IsEnd meant spent m ran old new (e.Failed error) = IsRan meant spent m ran old new (Fails (view error))
+IsEnd meant spent m ran old new e.NoMemory = Unit {0}
 
--- how a document's run through processors ends, by the meanings that the runner has
-abbrev pub Ends : {R : Type 0} → (R → ℕ → DocData → Judged) → (R → ℕ → DocData → Edited) → (R → ℕ → DocData → ℕ) → (R → ℕ) → Processors → DocData → R → R → PipeEnd → Type 0
-Ends tested changed cost spent processors doc old new result = IsEnd tested changed cost spent (piped (tested old) (changed old) processors doc) old new result
+-- how a document's run through processors ends, by a meaning that the runner has
+abbrev pub Ends : {R : Type 0} → (R → Meaning → Type 0) → (R → ℕ) → Meaning → Processors → DocData → R → R → PipeEnd → Type 0
+Ends meant spent m processors doc old new result = IsEnd meant spent m (piped m.tested m.changed processors doc) old new result

@@ -17,6 +17,12 @@ pub data Judged : Type 0 where
   Lacks : Judged
   TestErrs : Data → Judged
 
+-- what scripts mean: what each test says of a document, what each other script makes of it, and what a call costs
+pub record Meaning : Type 0 where
+  pub tested : ℕ → DocData → Judged
+  pub changed : ℕ → DocData → Edited
+  pub cost : ℕ → DocData → ℕ
+
 -- what processors make of a document; a dropped one is told as it stood there
 pub data Made : Type 0 where
   Gives : DocData → Made

@@ -2,10 +2,9 @@
 
 ghost use Rattle.std.specs.Prelude.{◌≡◌, ℕ, IfOk};
 ghost use Rattle.serde_json.specs.View.{view};
-ghost use Rattle.pipe_fields.specs.Documents.{DocData, doc_view};
-ghost use Rattle.pipe_fields.specs.Edits.{Edited};
+ghost use Rattle.pipe_fields.specs.Documents.{doc_view};
 ghost use Rattle.ingest_pipe.specs.Answers.{ChangeMeans, Ends, IsOutcome, LeavesOnFailure, OnChanged, OnTested, TestMeans, outcome_of};
-ghost use Rattle.ingest_pipe.specs.Running.{Judged, acted, called, counted, failure, piped, tried};
+ghost use Rattle.ingest_pipe.specs.Running.{Meaning, acted, called, counted, failure, piped, tried};
 
 use crate::processors::{Action, Follows, Pipeline, Processors};
 use pipe_fields::{EditErr, IngestDoc, remove, rename, set};
@@ -60,35 +59,33 @@ pub(crate) enum Outcome {
 }
 
 /// What runs the scripts of a pipeline. Its meanings say what each script does to each document and what that costs; no call
-/// changes them, and `spent` counts what the calls cost.
+/// takes one away, and `spent` counts what the calls cost.
 pub trait ScriptRunner {
-    /// What the test of a script says of a document.
-    ghost tested: { Self → ℕ → DocData → Judged };
+    /// That it can run its scripts.
+    ghost ready: { Self → Type 0 };
 
-    /// What a script makes of a document.
-    ghost changed: { Self → ℕ → DocData → Edited };
-
-    /// What a call costs.
-    ghost cost: { Self → ℕ → DocData → ℕ };
+    /// That it has a meaning: its scripts answer so. How a script ends may be known by a relation alone, and then each function
+    /// within the relation is a meaning.
+    ghost meant: { Self → Meaning → Type 0 };
 
     /// What was spent so far.
     ghost spent: { Self → ℕ };
 
     /// Whether the test of a script holds of a document. The script is named by its place among the pipeline's scripts.
     fn holds(&mut self, script: usize, doc: &IngestDoc) -> Tested
-        ensures answers { TestMeans (tested self.old script (doc_view doc.now)) result }
-        ensures tested { tested self.new ≡ tested self.old }
-        ensures changed { changed self.new ≡ changed self.old }
-        ensures cost { cost self.new ≡ cost self.old }
-        ensures spent { OnTested result (spent self.new ≡ counted (spent self.old) (cost self.old script (doc_view doc.now))) };
+        requires { ready self.old }
+        ensures ready { ready self.new }
+        ensures answers { (m : Meaning) → meant self.old m → TestMeans (m.tested script (doc_view doc.now)) result }
+        ensures stays { (m : Meaning) → meant self.old m → meant self.new m }
+        ensures spent { (m : Meaning) → meant self.old m → OnTested result (spent self.new ≡ counted (spent self.old) (m.cost script (doc_view doc.now))) };
 
     /// Runs a script over a document. The script is named by its place among the pipeline's scripts.
     fn change(&mut self, script: usize, doc: &IngestDoc) -> Changed
-        ensures answers { ChangeMeans (changed self.old script (doc_view doc.now)) result }
-        ensures tested { tested self.new ≡ tested self.old }
-        ensures changed { changed self.new ≡ changed self.old }
-        ensures cost { cost self.new ≡ cost self.old }
-        ensures spent { OnChanged result (spent self.new ≡ counted (spent self.old) (cost self.old script (doc_view doc.now))) };
+        requires { ready self.old }
+        ensures ready { ready self.new }
+        ensures answers { (m : Meaning) → meant self.old m → ChangeMeans (m.changed script (doc_view doc.now)) result }
+        ensures stays { (m : Meaning) → meant self.old m → meant self.new m }
+        ensures spent { (m : Meaning) → meant self.old m → OnChanged result (spent self.new ≡ counted (spent self.old) (m.cost script (doc_view doc.now))) };
 }
 
 /// The error of a processor that fails with a message.
@@ -111,7 +108,9 @@ fn outcome_of(edited: Result<(), EditErr>) -> Outcome
 
 /// Runs a script over a document.
 fn change<R: ScriptRunner>(script: usize, runner: &mut R, doc: &mut IngestDoc) -> Outcome
-    ensures outcome { IsOutcome R.tested R.changed R.cost R.spent (called script (doc_view doc.old) (R.changed runner.old script (doc_view doc.old))) runner.old runner.new doc.new result }
+    requires { R.ready runner.old }
+    ensures ready { R.ready runner.new }
+    ensures outcome { (m : Meaning) → R.meant runner.old m → IsOutcome R.meant R.spent m (called script (doc_view doc.old) (m.changed script (doc_view doc.old))) runner.old runner.new doc.new result }
     ensures left { LeavesOnFailure result doc.old doc.new }
 {
     match runner.change(script, doc) {
@@ -131,7 +130,9 @@ fn act<R: ScriptRunner>(
     runner: &mut R,
     doc: &mut IngestDoc,
 ) -> Outcome
-    ensures outcome { IsOutcome R.tested R.changed R.cost R.spent (acted (R.changed runner.old) action.now (doc_view doc.old)) runner.old runner.new doc.new result }
+    requires { R.ready runner.old }
+    ensures ready { R.ready runner.new }
+    ensures outcome { (m : Meaning) → R.meant runner.old m → IsOutcome R.meant R.spent m (acted m.changed action.now (doc_view doc.old)) runner.old runner.new doc.new result }
     ensures left { LeavesOnFailure result doc.old doc.new }
 {
     match action {
@@ -159,7 +160,9 @@ fn step<R: ScriptRunner>(
     runner: &mut R,
     doc: &mut IngestDoc,
 ) -> Outcome
-    ensures outcome { IsOutcome R.tested R.changed R.cost R.spent (tried test (R.tested runner.old) (R.changed runner.old) action.now (doc_view doc.old)) runner.old runner.new doc.new result }
+    requires { R.ready runner.old }
+    ensures ready { R.ready runner.new }
+    ensures outcome { (m : Meaning) → R.meant runner.old m → IsOutcome R.meant R.spent m (tried test m.tested m.changed action.now (doc_view doc.old)) runner.old runner.new doc.new result }
     ensures left { LeavesOnFailure result doc.old doc.new }
 {
     let Some(test) = test else {
@@ -181,7 +184,9 @@ fn run<R: ScriptRunner>(
     runner: &mut R,
     doc: &mut IngestDoc,
 ) -> Outcome
-    ensures { IsOutcome R.tested R.changed R.cost R.spent (piped (R.tested runner.old) (R.changed runner.old) processors.now (doc_view doc.old)) runner.old runner.new doc.new result }
+    requires { R.ready runner.old }
+    ensures ready { R.ready runner.new }
+    ensures outcome { (m : Meaning) → R.meant runner.old m → IsOutcome R.meant R.spent m (piped m.tested m.changed processors.now (doc_view doc.old)) runner.old runner.new doc.new result }
 {
     match processors {
         Processors::End => Outcome::Passed,
@@ -206,10 +211,12 @@ fn run<R: ScriptRunner>(
 }
 
 impl Pipeline {
-    /// Runs a document through the pipeline: what its processors make of the document by the runner's meanings, and what
-    /// their calls of scripts cost is added to what the runner has spent.
+    /// Runs a document through the pipeline: what its processors make of the document by each meaning that the runner has, and
+    /// what their calls of scripts cost is added to what the runner has spent.
     pub fn run<R: ScriptRunner>(&self, alloc: Global, runner: &mut R, doc: IngestDoc) -> PipeEnd
-        ensures { Ends R.tested R.changed R.cost R.spent self.now.processors (doc_view doc) runner.old runner.new result }
+        requires { R.ready runner.old }
+        ensures ready { R.ready runner.new }
+        ensures ends { (m : Meaning) → R.meant runner.old m → Ends R.meant R.spent m self.now.processors (doc_view doc) runner.old runner.new result }
     {
         let mut doc = doc;
         match run(alloc, &self.processors, runner, &mut doc) {

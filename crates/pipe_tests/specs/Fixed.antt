@@ -1,10 +1,10 @@
 -- What scripts say and make whose answers are fixed.
-use Rattle.std.specs.Prelude.{ℕ, List, codes, slice_get, unwrap_or, if◌then◌else◌}
+use Rattle.std.specs.Prelude.{◌≡◌, ℕ, List, codes, slice_get, unwrap_or, if◌then◌else◌}
 use Rattle.std.specs.Str.{bytes_eq}
 use Rattle.serde_json.specs.Data.{Data, string}
 use Rattle.pipe_fields.specs.Documents.{DocData}
 use Rattle.pipe_fields.specs.Edits.{Edited, Becomes, Errs}
-use Rattle.ingest_pipe.specs.Running.{Judged, Holds, Lacks, TestErrs}
+use Rattle.ingest_pipe.specs.Running.{Judged, Holds, Lacks, TestErrs, Meaning}
 use Rattle.pipe_tests.specs.declared.fixed.Says.{Says}
 use Rattle.pipe_tests.specs.declared.fixed.Says.TheVariants as says
 
@@ -40,3 +40,9 @@ judged_in scripts script doc = judged_by (says_at scripts script) doc
 
 abbrev pub edited_in : List Says → ℕ → DocData → Edited
 edited_in scripts script doc = edited_by (says_at scripts script) doc
+
+-- what such scripts mean, where each call costs so much
+pub record FixedMeans (scripts : List Says) (cost : ℕ) (m : Meaning) : Type 0 where
+  pub tested : m.tested ≡ judged_in scripts
+  pub changed : m.changed ≡ edited_in scripts
+  pub costs : (script : ℕ) (doc : DocData) → m.cost script doc ≡ cost

@@ -5,7 +5,7 @@ ghost use Rattle.serde_json.specs.View.{view};
 ghost use Rattle.pipe_fields.specs.Documents.{doc_view};
 ghost use Rattle.pipe_fields.specs.Edits.{Becomes};
 ghost use Rattle.ingest_pipe.specs.Answers.{ChangeMeans, TestMeans};
-ghost use Rattle.pipe_tests.specs.Fixed.{edited_by, edited_in, error, judged_by, judged_in, says_at};
+ghost use Rattle.pipe_tests.specs.Fixed.{FixedMeans, edited_by, error, judged_by, says_at};
 
 use ingest_pipe::{Changed, IngestDoc, ScriptRunner, Tested};
 use serde_json::Value;
@@ -114,11 +114,9 @@ fn says_at(scripts: &[Says], script: usize) -> Says
 }
 
 impl<'a> ScriptRunner for Fixed<'a> {
-    ghost tested = { λ it. judged_in it.scripts.now };
+    ghost ready = { λ _. Unit {0} };
 
-    ghost changed = { λ it. edited_in it.scripts.now };
-
-    ghost cost = { λ it _ _. it.cost };
+    ghost meant = { λ it m. FixedMeans it.scripts.now it.cost m };
 
     ghost spent = { λ it. it.spent };
 

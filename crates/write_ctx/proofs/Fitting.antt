@@ -67,9 +67,15 @@ ingest_fits bind rules objects line f =
     let given = bind rules false objects (object (ingest_members line)) f in
     record { fits = given.0; value = given.1; begins = bound_begins false objects (object (ingest_members line)) }
 
+test_fits : BindFits → (rules : Rules) (objects : List Object) (line : Data) → Fits rules objects → KeepsCtx rules objects (ctx_placed kind.Test objects line)
+test_fits bind rules objects line f =
+    let given = bind rules true objects (object (ingest_members line)) f in
+    record { fits = given.0; value = given.1; begins = bound_begins true objects (object (ingest_members line)) }
+
 ctx_fits : BindFits → (rules : Rules) (which : WriteKind) (objects : List Object) (line : Data) → Fits rules objects → KeepsCtx rules objects (ctx_placed which objects line)
 ctx_fits bind rules kind.Update objects line f = update_fits bind rules objects line f
 ctx_fits bind rules kind.Ingest objects line f = ingest_fits bind rules objects line f
+ctx_fits bind rules kind.Test objects line f = test_fits bind rules objects line f
 
 -- ---- lines
 

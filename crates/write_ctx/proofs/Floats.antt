@@ -67,10 +67,11 @@ indexed_has_none objects ctx id =
 ingest_has_none : (objects : List Object) (ctx : Value) → has_float (ingest_reply objects ctx) ≡ false
 ingest_has_none objects ctx = text_has_none (text_at objects ctx (codes "_id")) (indexed_reply objects ctx) (indexed_has_none objects ctx)
 
--- ---- both
+-- ---- all
 
 pub replies_have_none : RepliesHaveNoFloat
 replies_have_none kind.Update ctx (e.Value value) objects = update_has_none objects ctx
 replies_have_none kind.Ingest ctx (e.Value value) objects = ingest_has_none objects ctx
+replies_have_none kind.Test ctx (e.Value value) objects = reply_has_none (e.Value value) objects
 replies_have_none which ctx (e.Thrown id place) objects = reply_has_none (e.Thrown id place) objects
 replies_have_none which ctx (e.Limit limit place) objects = reply_has_none (e.Limit limit place) objects

@@ -57,12 +57,14 @@ ctx_map kind.Update objects line =
     let members = bound_members false (no_pairs objects) (update_at line (keys_of kind.Update)) in
     last_kind (kind_is_of MAP) members.objects (o.Map HASH_MAP members.pairs (g.Keys put_keys) 0) map_is_map
 ctx_map kind.Ingest objects line = object_map false objects (object (ingest_members line)) refl
+ctx_map kind.Test objects line = object_map true objects (object (ingest_members line)) refl
 
 ctx_begins : (which : WriteKind) (objects : List Object) (line : Data) → Begins objects (ctx_placed which objects line).objects
 ctx_begins kind.Update objects line =
     let ms = update_at line (keys_of kind.Update) in
     begins_then objects _ _ (members_begin false (no_pairs objects) ms) (one_more _ _)
 ctx_begins kind.Ingest objects line = bound_begins false objects (object (ingest_members line))
+ctx_begins kind.Test objects line = bound_begins true objects (object (ingest_members line))
 
 args_typed : (objects : List Object) (params ctx : Value) → IsMap objects params → IsMap objects ctx → have_types (kinds objects) argument_types (params ∷ ctx ∷ []) ≡ true
 unfolding out-Ty denote.Hole.Carrier.out

@@ -62,6 +62,7 @@ not_found_whole name line d g h = turned line d (has_whole_numbers line) refl (f
 id_whole : (which : WriteKind) → Whole (default_data (id_default which))
 id_whole kind.Update = refl
 id_whole kind.Ingest = refl
+id_whole kind.Test = refl
 
 pub default_whole : (which : WriteKind) (key : LineKey) → Whole (default_data (row_of which key).default)
 default_whole which key.Id = id_whole which

@@ -36,10 +36,12 @@ row type_ default = record { type_ = type_; default = default }
 abbrev pub id_default : WriteKind → Default
 id_default kind.Update = required
 id_default kind.Ingest = given (string [])
+id_default kind.Test = given (string [])
 
 abbrev pub source_type : WriteKind → LineType
 source_type kind.Update = t.Object
 source_type kind.Ingest = t.Fields
+source_type kind.Test = t.Fields
 
 abbrev pub row_of : WriteKind → LineKey → Row
 row_of kind key.Id = row t.Text (id_default kind)
@@ -53,6 +55,7 @@ row_of kind key.Version = row t.Number (given (number (unsigned 1)))
 abbrev pub keys_of : WriteKind → List LineKey
 keys_of kind.Update = key.Id ∷ key.Index ∷ key.Now ∷ key.Routing ∷ key.Source ∷ key.Version ∷ []
 keys_of kind.Ingest = key.Id ∷ key.Index ∷ key.Source ∷ []
+keys_of kind.Test = key.Id ∷ key.Index ∷ key.Source ∷ []
 
 -- ---- what the table says
 

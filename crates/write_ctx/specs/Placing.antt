@@ -1,5 +1,5 @@
 -- The map `ctx` of a line in a heap.
-use Rattle.std.specs.Prelude.{ℕ, false, List, [], ◌∷◌, codes}
+use Rattle.std.specs.Prelude.{ℕ, true, false, List, [], ◌∷◌, codes}
 use Rattle.pl_types.specs.declared.classes.TheConstants.{HASH_MAP}
 use Rattle.pl_units.specs.Utf16.{units}
 use Rattle.serde_json.specs.Data.{Data, string, object, Members, no_members, member, put}
@@ -43,10 +43,11 @@ abbrev pub ingest_members : Data → Members
 ingest_members line =
     put (codes "_id") (value_at kind.Ingest line key.Id) (put (codes "_index") (value_at kind.Ingest line key.Index) (members_of (value_at kind.Ingest line key.Source)))
 
--- ---- both
+-- ---- all
 
 -- What a line places: for an update all its values and the operation, for an ingest the fields of its source and what stands beside it,
--- which may all be changed.
+-- which may all be changed, and for a test the same, of which nothing may be.
 abbrev pub ctx_placed : WriteKind → List Object → Data → Bound
 ctx_placed kind.Update objects line = keyed (bound_members false (no_pairs objects) (update_at line (keys_of kind.Update)))
 ctx_placed kind.Ingest objects line = bound false objects (object (ingest_members line))
+ctx_placed kind.Test objects line = bound true objects (object (ingest_members line))

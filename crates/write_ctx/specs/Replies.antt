@@ -1,4 +1,4 @@
--- The reply to a run over a line of an update or an ingest, by how it ended and what it left of `ctx`.
+-- The reply to a run over a line, by how it ended and what it left of `ctx`.
 use Rattle.std.specs.Prelude.{ℕ, Bool, true, false, List, [], ◌∷◌, Option, Some, None, Result, Ok, Err, codes, option_and_then, slice_get, if◌then◌else◌}
 use Rattle.pl_units.specs.Utf16.{units, bytes}
 use Rattle.serde_json.specs.Data.{Data, string, object, member, no_members}
@@ -110,14 +110,16 @@ indexed_reply objects ctx id =
 abbrev pub ingest_reply : List Object → Value → Data
 ingest_reply objects ctx = with_text (text_at objects ctx (codes "_id")) (indexed_reply objects ctx)
 
--- ---- both
+-- ---- all
 
-abbrev pub changed_reply : WriteKind → List Object → Value → Data
-changed_reply kind.Update objects ctx = update_reply objects ctx
-changed_reply kind.Ingest objects ctx = ingest_reply objects ctx
+-- a run that ended normally over a document that it may change is told by `ctx`, whatever value it gave, and a test by the value
+abbrev pub ended_reply : WriteKind → Value → Value → List Object → Data
+ended_reply kind.Update ctx value objects = update_reply objects ctx
+ended_reply kind.Ingest ctx value objects = ingest_reply objects ctx
+ended_reply kind.Test ctx value objects = script_reply_of (e.Value value) objects
 
--- a run that ended normally is told by `ctx`, whatever value it gave, and every other end as that of a script
+-- every other end is told as that of a script
 abbrev pub reply_of : WriteKind → Value → End → List Object → Data
-reply_of kind ctx (e.Value value) objects = changed_reply kind objects ctx
+reply_of kind ctx (e.Value value) objects = ended_reply kind ctx value objects
 reply_of kind ctx (e.Thrown id place) objects = script_reply_of (e.Thrown id place) objects
 reply_of kind ctx (e.Limit limit place) objects = script_reply_of (e.Limit limit place) objects

@@ -79,7 +79,7 @@ fn are_keys(kind: WriteKind, members: &Map<String, Json>) -> bool
 }
 
 /// Whether a line is an object that has no other key than those of its kind, each with a value of its type.
-pub(crate) fn is_line(kind: WriteKind, line: &Json) -> bool
+pub fn is_line(kind: WriteKind, line: &Json) -> bool
     ensures { result ≡ is_line kind (view line.now) }
 {
     match line.as_object() {

@@ -10,13 +10,15 @@ ghost use Rattle.write_ctx.specs.Keys.{id_default, is_key, keys_of, name_of, row
 use serde_json::Value as Json;
 use std::alloc::{AllocError, Global};
 
-/// What becomes of a document that a script changes.
+/// What becomes of a document that a script sees as `ctx`.
 #[derive(Clone, Copy, Debug, PartialEq, Eq)]
 pub enum WriteKind {
     /// It is there, and is changed or deleted: with `params` and `ctx`.
     Update,
     /// It is to be indexed: with `params` and `ctx`.
     Ingest,
+    /// It is asked something before it is indexed: with `params` and `ctx`, of which nothing may be changed.
+    Test,
 }
 
 /// A key of a line.
@@ -51,7 +53,7 @@ pub(crate) const UPDATE_KEYS: [LineKey; 6] = [
     LineKey::Version,
 ];
 
-/// The keys of an ingest, in byte order.
+/// The keys of an ingest and of a test, in byte order.
 const INGEST_KEYS: [LineKey; 3] = [LineKey::Id, LineKey::Index, LineKey::Source];
 
 /// The keys of a kind, in byte order.
@@ -61,6 +63,7 @@ pub(crate) fn keys_of(kind: WriteKind) -> &'static [LineKey]
     match kind {
         WriteKind::Update => &UPDATE_KEYS,
         WriteKind::Ingest => &INGEST_KEYS,
+        WriteKind::Test => &INGEST_KEYS,
     }
 }
 
@@ -71,6 +74,7 @@ fn source_type(kind: WriteKind) -> LineType
     match kind {
         WriteKind::Update => LineType::Object,
         WriteKind::Ingest => LineType::Fields,
+        WriteKind::Test => LineType::Fields,
     }
 }
 
@@ -81,6 +85,7 @@ fn id_is_optional(kind: WriteKind) -> bool
     match kind {
         WriteKind::Update => false,
         WriteKind::Ingest => true,
+        WriteKind::Test => true,
     }
 }
 
@@ -156,6 +161,7 @@ fn default_id(alloc: Global, kind: WriteKind) -> Result<Json, AllocError>
     match kind {
         WriteKind::Update => Ok(Json::Null),
         WriteKind::Ingest => text_json(alloc, ""),
+        WriteKind::Test => text_json(alloc, ""),
     }
 }
 

@@ -8,6 +8,7 @@ mod line;
 mod placing;
 mod replies;
 
+pub use checking::is_line;
 pub use json_bridge::{BindErr, Bound, Params};
 pub use keys::WriteKind;
 pub use laws::{lines_are_typed, lines_fit, replies_have_no_float};

@@ -177,6 +177,16 @@ fn place_ingest(heap: &mut Heap, line: Json) -> Result<Value, NumErr>
     bind(heap, &Json::Object(members), false)
 }
 
+/// Places the map `ctx` of a test.
+fn place_test(heap: &mut Heap, line: Json) -> Result<Value, NumErr>
+    ensures value { IfOk result (λ value. value ≡ (ctx_placed kinds.Test heap.old.objects (view line)).value) }
+    ensures store { OnOk result (heap.new ≡ record heap.old { objects = (ctx_placed kinds.Test heap.old.objects (view line)).objects }) }
+    ensures error { IfErr result (λ e. (e ≡ num_err.Number) → (has_whole_numbers (view line) ≡ false)) }
+{
+    let members = ingest_members(heap.alloc(), line)?;
+    bind(heap, &Json::Object(members), true)
+}
+
 /// Places the map `ctx` of a line. What is placed takes nothing from the room. `Number` where some number is no whole one of 64 bits with a
 /// sign.
 pub(crate) fn place_ctx(heap: &mut Heap, kind: WriteKind, line: Json) -> Result<Value, NumErr>
@@ -187,5 +197,6 @@ pub(crate) fn place_ctx(heap: &mut Heap, kind: WriteKind, line: Json) -> Result<
     match kind {
         WriteKind::Update => place_update(heap, &line),
         WriteKind::Ingest => place_ingest(heap, line),
+        WriteKind::Test => place_test(heap, line),
     }
 }

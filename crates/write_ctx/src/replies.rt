@@ -4,7 +4,9 @@ ghost use Rattle.std.specs.Prelude.{◌≡◌, Ok, Some, codes, option_and_then,
 ghost use Rattle.std.specs.Option.{option_copied};
 ghost use Rattle.serde_json.specs.View.{view};
 ghost use Rattle.object_values.specs.Pairs.{value_of};
+ghost use Rattle.object_values.specs.declared.value.Value.{Value as ScriptValue};
 ghost use Rattle.object_heap.specs.Parts.{pairs_in};
+ghost use Rattle.object_heap.specs.declared.outcome.End.TheVariants as e;
 ghost use Rattle.job_file.specs.Contexts.{named};
 ghost use Rattle.json_bridge.specs.Giving.{TellsFault};
 ghost use Rattle.json_bridge.specs.Without.{given_without};
@@ -294,15 +296,17 @@ fn ingest_reply(heap: &Heap, ctx: &Value) -> Result<Json, AllocError>
     }
 }
 
-// ---- both
+// ---- all
 
-/// The reply to a run that ended normally.
-fn changed_reply(kind: WriteKind, heap: &Heap, ctx: &Value) -> Result<Json, AllocError>
-    ensures { IfOk result (λ reply. view reply ≡ spec.changed_reply kind heap.now.objects ctx.now) }
+/// The reply to a run that ended so over a heap, where that is no thrown error and no limit.
+fn ended_reply(kind: WriteKind, ctx: &Value, end: &End, heap: &Heap) -> Result<Json, AllocError>
+    requires { (value : ScriptValue) × (end.now ≡ e.Value value) }
+    ensures { IfOk result (λ reply. view reply ≡ spec.reply_of kind ctx.now end.now heap.now.objects) }
 {
     match kind {
         WriteKind::Update => update_reply(heap, ctx),
         WriteKind::Ingest => ingest_reply(heap, ctx),
+        WriteKind::Test => reply_of(heap.alloc(), end, heap),
     }
 }
 
@@ -311,7 +315,7 @@ fn end_reply(kind: WriteKind, ctx: &Value, end: &End, heap: &Heap) -> Result<Jso
     ensures { IfOk result (λ reply. view reply ≡ spec.reply_of kind ctx.now end.now heap.now.objects) }
 {
     match end {
-        End::Value(_) => changed_reply(kind, heap, ctx),
+        End::Value(_) => ended_reply(kind, ctx, end, heap),
         End::Thrown { .. } => reply_of(heap.alloc(), end, heap),
         End::Limit { .. } => reply_of(heap.alloc(), end, heap),
     }
@@ -320,7 +324,8 @@ fn end_reply(kind: WriteKind, ctx: &Value, end: &End, heap: &Heap) -> Result<Jso
 /// The reply to a run whose start bound `ctx` to this value. After a thrown error or a limit it is that of a script. After a normal end of
 /// an update it is `bad-op` where `op` is none of `index`, `none`, `noop` and `delete`, and `result-kind` where `_id` is no text; then the
 /// document with its `_source` where `op` is `index`, which has to be a map, and else its `_id` alone. After that of an ingest it is
-/// `result-kind` where `_id` or `_index` is no text, and else the document with what else `ctx` has. A source is told by its JSON form, or by
+/// `result-kind` where `_id` or `_index` is no text, and else the document with what else `ctx` has. That of a test is that of a script. A
+/// source is told by its JSON form, or by
 /// the kind of its first fault: `result-key`, `result-depth`, `result-size` or `result-kind`.
 pub fn reply(kind: WriteKind, ctx: &Value, outcome: &Outcome) -> Result<Json, AllocError>
     ensures { IfOk result (λ reply. view reply ≡ spec.reply_of kind ctx.now outcome.now.end outcome.now.heap.objects) }
