@@ -1,0 +1,4 @@
+pub mod Beginning
+pub mod Giving
+pub mod Moving
+pub mod Splitting
