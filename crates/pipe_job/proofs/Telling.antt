@@ -12,8 +12,8 @@ use Rattle.serde_json.specs.declared.value.Value.{Value as Json, Object}
 use Rattle.serde_json.proofs.Views.{view-Object, view-lookup}
 use Rattle.json_bridge.specs.Starts.{syntax}
 use Rattle.json_bridge.specs.declared.error.BindErr.{BindErr}
-use Rattle.pipe_fields.specs.declared.document.IngestDoc.{IngestDoc}
-use Rattle.pipe_fields.specs.Documents.{DocData, doc_view}
+use Rattle.ingest_pipe.specs.pipe_fields_declared.document.IngestDoc.{IngestDoc}
+use Rattle.ingest_pipe.specs.Documents.{DocData, doc_view}
 use Rattle.std.specs.declared.alloc.AllocError.{AllocError}
 use Rattle.serde_json.specs.Data.{Data}
 use Rattle.line_run.specs.declared.replier.ReplyLine.{ReplyLine}

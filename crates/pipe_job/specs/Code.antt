@@ -6,7 +6,7 @@ use Rattle.object_heap.specs.Store.{Store}
 use Rattle.json_bridge.specs.Starts.{Start, Fault, field}
 use Rattle.document_replies.specs.Jobs.{by_start}
 use Rattle.document_replies.specs.Replies.{Ended}
-use Rattle.pipe_fields.specs.Documents.{DocData}
+use Rattle.ingest_pipe.specs.Documents.{DocData}
 use Rattle.ingest_pipe.specs.Running.{Meaning}
 use Rattle.write_ctx.specs.Lines.{bound_document}
 use Rattle.pipe_job.specs.declared.answers.PipeAnswer.{PipeAnswer}

@@ -7,8 +7,8 @@ use Rattle.serde_json.specs.Read.{read}
 use Rattle.json_bridge.specs.Starts.{Fault, syntax, number_outside, field}
 use Rattle.json_replies.specs.Replies.{only}
 use Rattle.job_file.specs.Values.{has_whole_numbers}
-use Rattle.pipe_fields.specs.Documents.{DocData}
-use Rattle.pipe_fields.specs.Edits.{Edited, Becomes, Errs}
+use Rattle.ingest_pipe.specs.Documents.{DocData}
+use Rattle.ingest_pipe.specs.Edits.{Edited, Becomes, Errs}
 use Rattle.ingest_pipe.specs.Running.{Judged, Holds, Lacks, TestErrs, Made, Gives, Drops, Fails}
 use Rattle.write_ctx.specs.Keys.{is_line}
 use Rattle.write_ctx.specs.Replies.{document_reply, plain_reply}

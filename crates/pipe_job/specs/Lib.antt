@@ -7,4 +7,4 @@ pub use Rattle.ingest_pipe.specs.Paths
 pub use Rattle.ingest_pipe.specs.Reading
 pub use Rattle.ingest_pipe.specs.Running
 pub use Rattle.ingest_pipe.specs.declared as ingest_pipe_declared
-pub use Rattle.pipe_fields.specs.Documents as PipeDocuments
+pub use Rattle.ingest_pipe.specs.Documents as PipeDocuments

@@ -4,8 +4,8 @@ use Rattle.serde_json.specs.View.{view}
 use Rattle.json_bridge.specs.Starts.{Fault, syntax, number_outside, field}
 use Rattle.json_bridge.specs.declared.error.BindErr.{BindErr}
 use Rattle.json_bridge.specs.declared.error.BindErr.TheVariants as b
-use Rattle.pipe_fields.specs.declared.document.IngestDoc.{IngestDoc}
-use Rattle.pipe_fields.specs.Documents.{DocData, doc_view}
+use Rattle.ingest_pipe.specs.pipe_fields_declared.document.IngestDoc.{IngestDoc}
+use Rattle.ingest_pipe.specs.Documents.{DocData, doc_view}
 use Rattle.ingest_pipe.specs.declared.running.PipeEnd.{PipeEnd}
 use Rattle.ingest_pipe.specs.declared.running.PipeEnd.TheVariants as e
 use Rattle.ingest_pipe.specs.Running.{Made, Gives, Drops, Fails}

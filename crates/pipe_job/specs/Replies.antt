@@ -9,7 +9,7 @@ use Rattle.job_replies.specs.Refusals.{line_error}
 use Rattle.line_run.specs.Replies.{Reply, no_reply}
 use Rattle.document_replies.specs.Changes.{ctx_in}
 use Rattle.document_replies.specs.Replies.{Ended, as_line, as_line_after, fault_of, is_blank}
-use Rattle.pipe_fields.specs.Documents.{DocData}
+use Rattle.ingest_pipe.specs.Documents.{DocData}
 use Rattle.ingest_pipe.specs.declared.processors.Processors.{Processors}
 use Rattle.ingest_pipe.specs.Running.{Meaning, Ran, piped, paid}
 use Rattle.write_ctx.specs.Replies.{reply_of}

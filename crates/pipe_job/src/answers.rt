@@ -6,7 +6,7 @@ ghost use Rattle.json_bridge.specs.Starts.{start_view};
 ghost use Rattle.job_replies.specs.Refusals.{line_error, line_kind};
 ghost use Rattle.document_replies.specs.Changes.{ctx_in};
 ghost use Rattle.document_replies.specs.Jobs.{by_start};
-ghost use Rattle.pipe_fields.specs.Documents.{doc_view};
+ghost use Rattle.ingest_pipe.specs.Documents.{doc_view};
 ghost use Rattle.pipe_job.specs.Code.{Answers, TakesStarts, answer_view};
 ghost use Rattle.pipe_job.specs.Replies.{IsAnswerTo};
 

@@ -3,8 +3,8 @@
 ghost use Rattle.std.specs.Prelude.{◌≡◌, false, IfOk, codes, option_and_then, option_map, string_bytes, unwrap_or};
 ghost use Rattle.serde_json.specs.Find.{as_bool, get};
 ghost use Rattle.serde_json.specs.View.{view};
-ghost use Rattle.pipe_fields.specs.Documents.{doc_view};
-ghost use Rattle.pipe_fields.specs.Edits.{Becomes};
+ghost use Rattle.ingest_pipe.specs.Documents.{doc_view};
+ghost use Rattle.ingest_pipe.specs.Edits.{Becomes};
 ghost use Rattle.ingest_pipe.specs.Answers.{ChangeMeans, TestMeans};
 ghost use Rattle.ingest_pipe.specs.Running.{Drops, Fails, Gives};
 ghost use Rattle.pipe_job.specs.Documents.{doc_of, edited_by, end_reply, judged_by, line_of_doc, text_at};

@@ -10,7 +10,7 @@ ghost use Rattle.job_replies.specs.Refusals.{line_error};
 ghost use Rattle.line_run.specs.Replies.{no_reply};
 ghost use Rattle.line_run.specs.Shown.{reply_shown};
 ghost use Rattle.document_replies.specs.Replies.{as_line, as_line_after};
-ghost use Rattle.pipe_fields.specs.Documents.{doc_view};
+ghost use Rattle.ingest_pipe.specs.Documents.{doc_view};
 ghost use Rattle.ingest_pipe.specs.Running.{Meaning};
 ghost use Rattle.pipe_job.specs.Code.{Mean, TakeAll};
 ghost use Rattle.pipe_job.specs.Documents.{doc_in, doc_read, end_reply};

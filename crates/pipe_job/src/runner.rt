@@ -1,7 +1,7 @@
 //! What runs the scripts of a pipeline over a document.
 
 ghost use Rattle.std.specs.Prelude.{◌≡◌, IfOk};
-ghost use Rattle.pipe_fields.specs.Documents.{doc_view};
+ghost use Rattle.ingest_pipe.specs.Documents.{doc_view};
 ghost use Rattle.pipe_job.specs.Code.{Answers, AnswersAt, Mean, TakeAll, TakesStarts, answer_view};
 
 use crate::answers::{PipeAnswer, PipedScript, wrong_answer};

@@ -3,7 +3,7 @@ use Rattle.std.proofs.Common.{ap, sym, ◌∙◌}
 use Rattle.serde_json.specs.Data.{Data}
 use Rattle.serde_json.specs.View.{view}
 use Rattle.json_bridge.specs.Starts.{start_view}
-use Rattle.pipe_fields.specs.Documents.{doc_view}
+use Rattle.ingest_pipe.specs.Documents.{doc_view}
 use Rattle.write_ctx.specs.Lines.{bound_document}
 use Rattle.pipe_job.proofs.answers.PipedScript.answer.Goals as goal
 

@@ -1,6 +1,6 @@
 -- The reply is told of what the pipeline makes of the document, by each meaning of its scripts.
 use Rattle.std.proofs.Common.{List, refl, sym, subst}
-use Rattle.pipe_fields.specs.Documents.{doc_view}
+use Rattle.ingest_pipe.specs.Documents.{doc_view}
 use Rattle.ingest_pipe.specs.Running.{Meaning}
 use Rattle.pipe_job.specs.declared.answers.PipedScript.{PipedScript}
 use Rattle.pipe_job.specs.Code.{Mean}
