@@ -2,7 +2,7 @@
 use Rattle.std.proofs.Common.{◌≡◌, ◌≢◌, ◌⊎◌, ℕ, ◌+◌, ◌≤◌, Bool, true, false, true≢false, cond, List, [], ◌∷◌, Option, Some, None, bytes_eq, inl, inr, refl, sym, ap, ◌∙◌, subst, arith}
 use Rattle.std.proofs.lemmas.Slice.Eq.{bytes_eq-Decides}
 use Rattle.serde_json.specs.Data.{Data}
-use Rattle.update_store.specs.Documents.{DocData, ChangeData, Index, Delete, DocumentsData, find, deleted_version, version_in, version_at, rewritten, with_source, without, with_version, replaced, removed, changed, with_change}
+use Rattle.update_store.specs.Documents.{DocData, ChangeData, Index, Delete, DocumentsData, find, deleted_version, version_in, version_at, rewritten, with_source, without, with_version, removed, changed, with_change}
 
 -- ---- tests
 

@@ -1,5 +1,5 @@
 -- Where the document of an id stands, and what is there behind a change at its place.
-use Rattle.std.proofs.Common.{◌≡◌, ◌≢◌, ℕ, zero, suc, ◌+◌, ◌<◌, Bool, true, false, true≢false, cond, not, ◌||◌, List, [], ◌∷◌, ◌++◌, length, map, get_or, set, take, drop, remove, nat_lt, position, Option, Some, None, is_some, option_map, option_copied, IfSome, IsSome, Bor, bytes_eq, string_eq, slice_get, String, Global, string_bytes, inl, inr, refl, sym, ap, ◌∙◌, subst, arith, append_assoc, append-nil}
+use Rattle.std.proofs.Common.{◌≡◌, ℕ, zero, suc, ◌+◌, ◌<◌, Bool, true, false, true≢false, cond, not, ◌||◌, List, [], ◌∷◌, ◌++◌, length, map, get_or, set, take, drop, remove, nat_lt, position, Option, Some, None, is_some, option_map, option_copied, IfSome, IsSome, Bor, bytes_eq, string_eq, slice_get, String, Global, string_bytes, inl, inr, refl, sym, ap, ◌∙◌, subst, arith, append_assoc, append-nil}
 use Rattle.std.specs.List.{prefix_len, list_any}
 use Rattle.std.specs.Map.{lookup}
 use Rattle.std.proofs.lemmas.List.{map-set}
@@ -9,7 +9,7 @@ use Rattle.serde_json.specs.Data.{Data}
 use Rattle.indexmap.specs.IndexMap.{insert_entry}
 use Rattle.update_store.specs.declared.document.Doc.{Doc}
 use Rattle.update_store.specs.Committing.{all_live}
-use Rattle.update_store.specs.Documents.{DocData, DocumentsData, doc_view, find, AreDistinct, deleted_version, rewritten, with_source, without, with_version, ids_of, versions_of, with_id, with_doc, with_docs, ArePlaces, IsAdded}
+use Rattle.update_store.specs.Documents.{DocData, DocumentsData, doc_view, find, AreDistinct, deleted_version, rewritten, with_source, without, with_version, ids_of, versions_of, with_id, with_docs, ArePlaces, IsAdded}
 use Rattle.update_store.proofs.DocumentLemmas.{chosen, passed, ids_tell, differs, other_without}
 
 -- ---- keys and ids

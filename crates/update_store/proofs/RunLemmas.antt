@@ -1,9 +1,8 @@
 -- What the code's steps make of clients, and what it tells of all of them.
-use Rattle.std.proofs.Common.{◌≡◌, ◌≢◌, ℕ, zero, suc, ◌+◌, ◌-◌, ◌<◌, Bool, true, false, true≢false, List, [], ◌∷◌, ◌++◌, length, map, Option, Some, None, Result, Ok, Err, IfOk, OnOk, string_bytes, inl, inr, refl, sym, ap, ◌∙◌, subst, arith, eq-eqb, eqb-true, append_assoc}
+use Rattle.std.proofs.Common.{◌≡◌, ◌≢◌, ℕ, zero, suc, ◌+◌, ◌-◌, false, List, [], ◌∷◌, ◌++◌, length, map, Result, Ok, Err, IfOk, OnOk, string_bytes, inl, inr, refl, sym, ap, ◌∙◌, subst, arith, eq-eqb, append_assoc}
 use Rattle.std.specs.Prelude.{◌==◌}
 use Rattle.std.proofs.lemmas.Bool.Decides.{eqb_tells}
 use Rattle.serde_json.specs.Data.{Data}
-use Rattle.serde_json.specs.View.{view}
 use Rattle.task_core.specs.Order.{rounds}
 use Rattle.task_core.specs.Steps.{State, over, AllStep}
 use Rattle.update_store.specs.declared.client.Client.{Client}
@@ -13,7 +12,7 @@ use Rattle.update_store.specs.declared.store.CommitErr.TheVariants as e
 use Rattle.update_store.specs.Documents.{DocData, ChangeData, DocumentsData, version_at}
 use Rattle.update_store.specs.Committing.{StoreData, read, committed, IsCommitted, CommitsNot}
 use Rattle.update_store.specs.Replies.{change_reply, none_reply, conflict_reply}
-use Rattle.update_store.specs.Updates.{Made, Nothing, PhaseData, Read, Run, Write, Keep, Ended, ClientData, client_data, Stepped, stepped, in_phase, begun, op_of, again, written, World, world, turns, left_of, IsUpdated, reply_in, replies_of, numbered, Call}
+use Rattle.update_store.specs.Updates.{Nothing, PhaseData, Read, Run, Write, Keep, Ended, ClientData, client_data, Stepped, stepped, in_phase, begun, op_of, again, written, World, world, turns, left_of, IsUpdated, reply_in, replies_of, numbered, Call}
 use Rattle.update_store.specs.Running.{Meaning, phase_view, Takes, IsRun, IsWritten, HasUpdated}
 use Rattle.update_store.specs.Serial.{IsSerial, AreFresh}
 use Rattle.update_store.proofs.DocumentLemmas.{chosen, passed}

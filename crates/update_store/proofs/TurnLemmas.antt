@@ -1,13 +1,13 @@
 -- What turns of tasks come to: steps of clients.
-use Rattle.std.proofs.Common.{◌≡◌, ◌⊎◌, ℕ, zero, suc, ◌+◌, ◌*◌, ◌<◌, Bool, true, false, List, [], ◌∷◌, ◌++◌, length, map, get_or, Option, Some, None, inl, inr, refl, sym, ap, ◌∙◌, subst, arith}
+use Rattle.std.proofs.Common.{◌≡◌, ℕ, zero, suc, ◌+◌, ◌*◌, ◌<◌, true, false, List, [], ◌∷◌, ◌++◌, length, Option, Some, None, inl, inr, refl, sym, ap, ◌∙◌, subst, arith}
 use Rattle.std.specs.Prelude.{◌==◌}
 use Rattle.std.proofs.lemmas.Bool.Decides.{eqb_tells}
 use Rattle.task_core.specs.Order.{rounds}
-use Rattle.task_core.specs.Steps.{State, over, IsStep, left_at, StepsAt, HasTurn, HaveTurns, AllStep}
-use Rattle.update_store.specs.Documents.{DocData, ChangeData, version_at}
+use Rattle.task_core.specs.Steps.{State, IsStep, left_at, HasTurn, HaveTurns, AllStep}
+use Rattle.update_store.specs.Documents.{DocData, version_at}
 use Rattle.update_store.specs.Committing.{StoreData, read, committed}
 use Rattle.update_store.specs.Replies.{change_reply}
-use Rattle.update_store.specs.Updates.{Made, Writes, Nothing, Fails, PhaseData, Read, Run, Write, Keep, Ended, ClientData, Stepped, stepped, in_phase, begun, run_made, op_of, again, step_in, step, World, world, put_before, turn, turns, Call, calls_in, calls_at, calls, left_in, left_of, has_ended, IsUpdated}
+use Rattle.update_store.specs.Updates.{Made, Writes, Nothing, Fails, PhaseData, Read, Run, Write, Keep, Ended, ClientData, Stepped, stepped, in_phase, begun, run_made, op_of, again, step_in, step, world, put_before, turn, turns, Call, calls_in, calls_at, calls, left_in, left_of, has_ended, IsUpdated}
 use Rattle.update_store.specs.Running.{Meaning, MakesIn, always, counted, paid, Asked, Takes}
 use Rattle.update_store.proofs.DocumentLemmas.{chosen, passed}
 

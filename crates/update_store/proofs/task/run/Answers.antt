@@ -1,6 +1,6 @@
 use Rattle.std.proofs.Common.{refl}
 use Rattle.serde_json.specs.View.{view}
-use Rattle.update_store.specs.Documents.{change_view, doc_view}
+use Rattle.update_store.specs.Documents.{change_view}
 use Rattle.update_store.specs.Updates.{Fails, Nothing, Writes}
 use Rattle.update_store.proofs.task.run.Goals as goal
 

@@ -1,5 +1,4 @@
-use Rattle.std.proofs.Common.{List, length, map, ◌<◌, ℕ, subst, sym, ap, ◌∙◌}
-use Rattle.std.proofs.lemmas.List.{length-map}
+use Rattle.std.proofs.Common.{List, map, sym, ap}
 use Rattle.update_store.specs.Documents.{DocData, doc_view, versions_of}
 use Rattle.update_store.proofs.PlaceLemmas.{is_cut, none_at, seen, stands_at, without_none}
 use Rattle.update_store.proofs.documents.Documents.cut.Goals as goal

@@ -1,4 +1,4 @@
-use Rattle.std.proofs.Common.{◌≡◌, List, Option, None, OnOk, String, Global, map, subst, sym, ap, ◌∙◌}
+use Rattle.std.proofs.Common.{◌≡◌, List, Option, None, OnOk, map, subst, sym, ap, ◌∙◌}
 use Rattle.serde_json.specs.View.{view}
 use Rattle.update_store.specs.Documents.{Index, DocData, DocumentsData, ArePlaces, changed, doc_view, find, versions_of}
 use Rattle.update_store.proofs.PlaceLemmas.{find_at, none_at, places_rewritten, rewritten_at, seen, some_at, stands_at}

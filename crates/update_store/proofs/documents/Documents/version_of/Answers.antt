@@ -1,4 +1,4 @@
-use Rattle.std.proofs.Common.{Option, sym, ap, ◌∙◌}
+use Rattle.std.proofs.Common.{Option, ap, ◌∙◌}
 use Rattle.update_store.specs.Documents.{DocData, deleted_version, version_in}
 use Rattle.update_store.proofs.documents.Documents.version_of.Goals as goal
 
