@@ -65,6 +65,7 @@ fn line_kind(fault: LineFault) -> &'static str
         LineFault::Syntax => "line-syntax",
         LineFault::Number => "line-number",
         LineFault::Field => "line-field",
+        LineFault::Limit => "line-limit",
     }
 }
 
