@@ -8,6 +8,7 @@ use Rattle.document_replies.specs.job_replies_declared.line_fault.LineFault.TheV
 use Rattle.update_lines.specs.declared.heard.Slot.{Slot}
 use Rattle.update_lines.specs.declared.heard.Slot.TheVariants as slot
 use Rattle.update_lines.specs.declared.heard.Heard.{Heard}
+use Rattle.update_lines.specs.Limits.{most_clients}
 use Rattle.update_lines.specs.Requests.{RequestData, asked_of, request_view}
 
 -- Each line that is not blank has a slot, in order: it is a client's, or it is told what is wrong with it. The clients stand in the order
@@ -18,10 +19,6 @@ pub record HeardData : Type 0 where
 
 abbrev pub nothing_heard : HeardData
 nothing_heard = record { slots = []; requests = [] }
-
--- so many clients there may be
-abbrev pub most_clients : ℕ
-most_clients = 10000
 
 abbrev pub with_wrong : LineFault → HeardData → HeardData
 with_wrong wrong h = record { slots = h.slots ++ slot.Wrong wrong ∷ []; requests = h.requests }

@@ -1,7 +1,8 @@
 //! What the lines of an input ask for.
 
-ghost use Rattle.std.specs.Prelude.{◌≡◌, OnOk};
+ghost use Rattle.std.specs.Prelude.{◌≡◌, ◌<◌, ◌≤◌, OnOk, length};
 ghost use Rattle.outer_io.specs.Lines.{Within, Beyond};
+ghost use Rattle.update_lines.specs.Limits.{most_clients};
 ghost use Rattle.update_lines.specs.Heard.{hear, heard_view, nothing_heard, accepted, with_client, with_wrong};
 ghost use Rattle.update_lines.specs.Requests.{request_view};
 
@@ -29,6 +30,7 @@ pub struct Heard {
     pub slots: Vec<Slot>,
     /// The clients, in the order of their lines.
     pub requests: Vec<Request>,
+    ghost few: { length requests.items ≤ most_clients },
 }
 
 impl Drop for Heard {
@@ -61,6 +63,7 @@ impl Heard {
 
     /// Another client.
     fn add_client(&mut self, request: Request) -> Result<(), AllocError>
+        requires { length self.old.requests.items < most_clients }
         ensures { OnOk result (heard_view self.new ≡ with_client (request_view request) (heard_view self.old)) }
     {
         self.slots.push(Slot::Client)?;
