@@ -58,6 +58,17 @@ Turned q old new turn.More = (new ≡ later q old) × IsTrue (goes new.now)
 Turned q old new turn.Done = (new ≡ later q old) × IsTrue (is_over new.now)
 Turned q old new turn.NoMemory = IsNone new.now
 
+-- how many of so many instructions a turn takes: none behind the end
+abbrev pub taken_from : Activation → ℕ → Option Next → ℕ
+taken_from a q None = 0
+taken_from a q (Some n) = steps_taken (codes_in a.executable) (limits_in a.executable a.limits) q n
+
+-- A turn took so many instructions. Behind want of memory nothing is known.
+abbrev pub HasTaken : ℕ → Activation → Turn → ℕ → Type 0
+HasTaken q old turn.More taken = taken ≡ taken_from old q old.now
+HasTaken q old turn.Done taken = taken ≡ taken_from old q old.now
+HasTaken q old turn.NoMemory taken = Unit {0}
+
 -- The next instructions, so many at most, take no memory, in frames that are within what was taken at the start. All that the limit of depth
 -- allows was taken then.
 pub record SparesFor (q : ℕ) (a : Activation) : Type 0 where

@@ -7,7 +7,7 @@ ghost use Rattle.machine_parts.specs.Rooms.{most_at_start};
 ghost use Rattle.object_values.specs.declared.object.Owner.TheVariants.{Script};
 ghost use Rattle.code_meaning.specs.Machine.{start};
 ghost use Rattle.code_meaning.specs.Words.{start_of};
-ghost use Rattle.machine.specs.Activations.{HasTurned, Leaves, SparesFor, Turned, turn_of};
+ghost use Rattle.machine.specs.Activations.{HasTaken, HasTurned, Leaves, SparesFor, Turned, turn_of};
 ghost use Rattle.machine.specs.Seen.{codes_in, configuration_of};
 
 use crate::configuration::{Configuration, Limits, RunEnd, Step};
@@ -45,6 +45,14 @@ pub struct RunOutcome {
     pub steps: u64,
     /// The members that were called, by their numbers, in the order of their first calls.
     pub reached: Elements<u32>,
+}
+
+/// How a turn ended, and how many instructions it took.
+#[derive(Clone, Copy)]
+pub struct CountedTurn {
+    pub turn: Turn,
+    /// Behind want of memory any number.
+    pub taken: u64,
 }
 
 /// What a run leaves, and its memory for the next one.
@@ -143,13 +151,29 @@ impl<'c> Activation<'c> {
         // frames that the limit of depth allows were taken at the start.
         ensures memory { SparesFor q self.old → HasTurned result }
     {
+        let CountedTurn { turn, taken: _ } = self.turn_counted(q);
+        turn
+    }
+
+    /// The same, with the number of the instructions that were taken.
+    pub fn turn_counted(&mut self, q: u64) -> CountedTurn
+        ensures exact { Turned q self.old self.new result.turn }
+        ensures taken { HasTaken q self.old result.turn result.taken }
+        ensures memory { SparesFor q self.old → HasTurned result.turn }
+    {
         if self.last.goes() {
             let Ran { last, steps } = run_on(&mut self.run, self.executable, &self.limits, q);
             self.last = last;
             self.steps = self.steps.saturating_add(steps);
-            turn_of(self.last)
+            CountedTurn {
+                turn: turn_of(self.last),
+                taken: steps,
+            }
         } else {
-            turn_of(self.last)
+            CountedTurn {
+                turn: turn_of(self.last),
+                taken: 0,
+            }
         }
     }
 

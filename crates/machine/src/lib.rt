@@ -25,7 +25,7 @@ mod suiting;
 mod throwing;
 mod typed;
 
-pub use activation::{Activation, Finished, RunOutcome};
+pub use activation::{Activation, CountedTurn, Finished, RunOutcome};
 pub use configuration::{Limits, RunEnd};
 pub use laws::activation_laws;
 pub use machine_parts::{Executable, LinkedText};

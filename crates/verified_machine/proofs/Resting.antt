@@ -15,13 +15,13 @@ use Rattle.task_core.specs.Turns.{IsTurn, Turns}
 use Rattle.machine.specs.declared.configuration.Limits as configuration
 use Rattle.machine.specs.Seen.{Executable, codes_in, limits_in, text_of}
 use Rattle.machine.specs.Runs.{steps_taken}
-use Rattle.machine.specs.Activations.{Activation, counted, later, goes, is_over, Turned, SparesFor}
+use Rattle.machine.specs.Activations.{Activation, HasTaken, counted, later, goes, is_over, taken_from, Turned, SparesFor}
 use Rattle.machine.proofs.Turning.{adds, taken_adds}
 use Rattle.verifier_soundness.specs.Fits.{FitsConfig, FitsNext}
 use Rattle.verifier_soundness.specs.Laws.{AllFrameWords}
 use Rattle.verifier_soundness.proofs.Runs.{stays_fitting, ends_within}
 use Rattle.verifier_soundness.proofs.Sizes.{is_within}
-use Rattle.verified_machine.specs.Tasks.{code_under, Keeps, KeepsFrom, IsVerified, HeldFrom, IsHeld, OnlySpares, most_left, rest_from, rest, outcome_in, ending, is_end}
+use Rattle.verified_machine.specs.Tasks.{code_under, Keeps, KeepsFrom, IsVerified, HeldFrom, IsHeld, FallsBy, OnlySpares, most_left, rest_from, rest, outcome_in, ending, is_end}
 
 plus_none : (a b : ℕ) → b ≡ 0 → a + b ≡ a
 plus_none a b e = omega (arith, e)
@@ -289,3 +289,33 @@ turned_is a new q turn.More k h =
 turned_is a new q turn.Done k h =
     subst (λ new. IsTurn rest ending q a new × (rest new ≡ 0)) (sym h.0) (turn_ends a q k (subst (λ (new : Activation). IsTrue (is_over new.now)) h.0 h.1))
 turned_is a new q turn.NoMemory k h = tt
+
+-- ---- how many instructions a turn takes
+
+-- what is left falls by what a turn takes
+falls_from : (a : Activation) (q : ℕ) (now : Option Next) → some_now now → KeepsFrom (codes_in a.executable) (limits_in a.executable a.limits) a.steps now → rest (made a now) ≡ taken_from a q now + rest (later q (made a now))
+unfolding left
+falls_from a q None some k = absurd some
+falls_from a q (Some n) some k =
+    let codes = codes_in a.executable in
+    let limits = limits_in a.executable a.limits in
+    turn_left codes limits q n (ends_at codes limits a.steps n k) (ends_at codes limits a.steps (after codes limits q n) (keeps_on codes limits q a.steps a.steps n k.counts k))
+
+goes_some : (turned : Next → Next) (now : Option Next) → IsTrue (goes (option_map turned now)) → some_now now
+goes_some turned None g = false≢true g
+goes_some turned (Some n) g = tt
+
+over_some : (turned : Next → Next) (now : Option Next) → IsTrue (is_over (option_map turned now)) → some_now now
+over_some turned None g = false≢true g
+over_some turned (Some n) g = tt
+
+falls_later : (a new : Activation) (q taken : ℕ) → IsVerified a → some_now a.now → new ≡ later q a → taken ≡ taken_from a q a.now → rest a ≡ taken + rest new
+falls_later a new q taken k some n t =
+    subst (λ new. rest a ≡ taken + rest new) (sym n) (subst (λ (m : ℕ). rest a ≡ m + rest (later q a)) (sym t) (falls_from a q a.now some k))
+
+pub falls_by : (a new : Activation) (q taken : ℕ) (t : Turn) → IsVerified a → Turned q a new t → HasTaken q a t taken → FallsBy taken t a new
+falls_by a new q taken turn.More k h t =
+    falls_later a new q taken k (goes_some (after (codes_in a.executable) (limits_in a.executable a.limits) q) a.now (subst (λ (new : Activation). IsTrue (goes new.now)) h.0 h.1)) h.0 t
+falls_by a new q taken turn.Done k h t =
+    falls_later a new q taken k (over_some (after (codes_in a.executable) (limits_in a.executable a.limits) q) a.now (subst (λ (new : Activation). IsTrue (is_over new.now)) h.0 h.1)) h.0 t
+falls_by a new q taken turn.NoMemory k h t = tt

@@ -110,6 +110,12 @@ rest_from codes limits (Some n) = steps_taken codes limits (most_left codes limi
 abbrev pub rest : Activation → ℕ
 rest a = rest_from (codes_in a.executable) (limits_in a.executable a.limits) a.now
 
+-- What is left falls by so many instructions with a turn. Behind want of memory nothing is known.
+abbrev pub FallsBy : ℕ → Turn → Activation → Activation → Type 0
+FallsBy taken turn.More old new = rest old ≡ taken + rest new
+FallsBy taken turn.Done old new = rest old ≡ taken + rest new
+FallsBy taken turn.NoMemory old new = Unit {0}
+
 -- ---- what it comes to
 
 abbrev pub which_of : Limit → Which

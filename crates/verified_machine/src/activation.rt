@@ -10,11 +10,11 @@ ghost use Rattle.verifier_soundness.specs.Rows.{HaveRows};
 ghost use Rattle.verifier_soundness.specs.Fits.{kinds_of, main_params};
 ghost use Rattle.verifier_soundness.specs.Bounds.{most_steps};
 ghost use Rattle.task_core.specs.Turns.{Turns};
-ghost use Rattle.verified_machine.specs.Tasks.{LeavesFitting, OnlySpares, SparesMemory, rest, ending, is_end};
+ghost use Rattle.verified_machine.specs.Tasks.{FallsBy, LeavesFitting, OnlySpares, SparesMemory, rest, ending, is_end};
 
 use crate::executable::VerifiedExecutable;
 use code_meaning::Word;
-use machine::{Activation, Finished, Limits, RunMemory, RunOutcome};
+use machine::{Activation, CountedTurn, Finished, Limits, RunMemory, RunOutcome};
 use object_heap::Heap;
 use object_values::Elements;
 use std::alloc::AllocError;
@@ -104,12 +104,26 @@ impl<'c> VerifiedActivation<'c> {
         ensures turns { Turns rest ending q self.old self.new result }
         ensures memory { OnlySpares q self.old → HasTurned result }
     {
+        let CountedTurn { turn, taken: _ } = self.advance_counted(q);
+        turn
+    }
+
+    /// The same, with the number of the instructions that were taken: what is left falls by so many.
+    pub fn advance_counted(&mut self, q: u64) -> CountedTurn
+        ensures exact { Turned q self.old self.new result.turn }
+        ensures turns { Turns rest ending q self.old self.new result.turn }
+        ensures taken { FallsBy result.taken result.turn self.old self.new }
+        ensures memory { OnlySpares q self.old → HasTurned result.turn }
+    {
         if self.done {
-            Turn::Done
+            CountedTurn {
+                turn: Turn::Done,
+                taken: 0,
+            }
         } else {
-            let turn = self.run.turn(q);
-            self.done = is_end(turn);
-            turn
+            let counted = self.run.turn_counted(q);
+            self.done = is_end(counted.turn);
+            counted
         }
     }
 

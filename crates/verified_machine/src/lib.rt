@@ -7,5 +7,5 @@ mod executable;
 pub use activation::{FinishedRun, VerifiedActivation};
 pub use code_meaning::Word;
 pub use executable::{VerifiedExecutable, VerifiedText};
-pub use machine::{Limits, RunEnd, RunMemory, RunOutcome, boxed, unboxed};
+pub use machine::{CountedTurn, Limits, RunEnd, RunMemory, RunOutcome, boxed, unboxed};
 pub use verifier::{Verified, VerifyErr, verify};

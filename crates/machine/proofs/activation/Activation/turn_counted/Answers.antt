@@ -4,7 +4,7 @@ use Rattle.machine.specs.Memory.{RunSpares}
 use Rattle.machine.specs.Seen.{limits_in}
 use Rattle.machine.proofs.Ended.{still}
 use Rattle.machine.proofs.Found.{has_turned, run_spares, ended_turned}
-use Rattle.machine.proofs.activation.Activation.turn.Goals as goal
+use Rattle.machine.proofs.activation.Activation.turn_counted.Goals as goal
 
 pub returns-else-goes-clause-exact : goal.returns-else-goes-clause-exact
 returns-else-goes-clause-exact c =
