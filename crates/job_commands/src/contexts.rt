@@ -88,7 +88,7 @@ fn own_types(alloc: Global) -> ContextTypes
 }
 
 /// The variables and the result of the script of a context under a key.
-pub(crate) fn context_types(
+pub fn context_types(
     alloc: Global,
     context: JobContext,
     _key: &str,

@@ -18,7 +18,9 @@ mod starts;
 mod tally;
 
 pub use check_command::check;
+pub use contexts::context_types;
 pub use gen_command::gen_;
 pub use list_command::list;
 pub use run_command::run;
+pub use script::LimitedScript;
 pub use starts::lines_start_well;
