@@ -41,7 +41,7 @@ fn push_both(script: String, prelude: String, listings: &mut Vec<String>) -> Res
 }
 
 /// Puts the listing of a script's code last, and that of the prelude's.
-pub fn push_listings(
+fn push_listings(
     alloc: Global,
     script: &Script,
     listings: &mut Vec<String>,

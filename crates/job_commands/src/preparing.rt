@@ -86,8 +86,8 @@ fn script_refused(alloc: Global, context: JobContext, key: &str, wrong: Refusal)
     }
 }
 
-/// The script of a text of a job, which stands under a key.
-pub fn script_of(
+/// The script of a job under a key.
+fn script_of(
     alloc: Global,
     found: &ReadJob,
     prelude: &VerifiedPrelude,
