@@ -39,11 +39,11 @@ if_some (Some told) P Q to h = to told h
 -- ---- one script
 
 -- what is told where the script of a text is refused, and where one of some is
-abbrev IsRefused : JobUnder → List ℕ → List ℕ → Told → Type 0
+abbrev pub IsRefused : JobUnder → List ℕ → List ℕ → Told → Type 0
 IsRefused under key text told =
     (wrong : Refusal) × IsProgramOf under.allow (types_of under.job.context key) text (Err wrong) × (told ≡ script_told under (record { key = key; refusal = wrong }))
 
-abbrev AreRefused : JobUnder → List (List ℕ × List ℕ) → Told → Type 0
+abbrev pub AreRefused : JobUnder → List (List ℕ × List ℕ) → Told → Type 0
 AreRefused under texts told = (wrong : RefusedScript) × ArePrograms under texts (Err wrong) × (told ≡ script_told under wrong)
 
 abbrev IsNotPrepared : JobUnder → List (List ℕ × List ℕ) → Told → Type 0
@@ -79,16 +79,16 @@ abbrev pub behind_all : List JobProgram → Result (List JobProgram) RefusedScri
 behind_all [] rest = rest
 behind_all (program ∷ programs) rest = with_first program (behind_all programs rest)
 
-one_more : (programs : List JobProgram) (program : JobProgram) (rest : Result (List JobProgram) RefusedScript)
+pub one_more : (programs : List JobProgram) (program : JobProgram) (rest : Result (List JobProgram) RefusedScript)
     → behind_all (programs ++ program ∷ []) rest ≡ behind_all programs (with_first program rest)
 one_more [] program rest = refl
 one_more (first ∷ programs) program rest = ap (with_first first) (one_more programs program rest)
 
-behind_none : (programs : List JobProgram) → behind_all programs (Ok []) ≡ Ok programs
+pub behind_none : (programs : List JobProgram) → behind_all programs (Ok []) ≡ Ok programs
 behind_none [] = refl
 behind_none (first ∷ programs) = ap (with_first first) (behind_none programs)
 
-behind_wrong : (programs : List JobProgram) (wrong : RefusedScript) → behind_all programs (Err wrong) ≡ Err wrong
+pub behind_wrong : (programs : List JobProgram) (wrong : RefusedScript) → behind_all programs (Err wrong) ≡ Err wrong
 behind_wrong [] wrong = refl
 behind_wrong (first ∷ programs) wrong = ap (with_first first) (behind_wrong programs wrong)
 

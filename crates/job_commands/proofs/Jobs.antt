@@ -35,7 +35,7 @@ module _ (texts : TextsAreAnsweredOnce) (under : JobUnder) where
   behind_once key (Ok program) Rest once a b (r, is, at) (q, goes, to) = at ∙ ap (with_first (record { key = key; program = program })) (once r q is goes) ∙ sym to
   behind_once key (Err wrong) Rest once a b h k = h ∙ sym k
 
-  programs_once : (scripts : List (List ℕ × List ℕ)) (a b : Result (List JobProgram) RefusedScript) → ArePrograms under scripts a → ArePrograms under scripts b → a ≡ b
+  pub programs_once : (scripts : List (List ℕ × List ℕ)) (a b : Result (List JobProgram) RefusedScript) → ArePrograms under scripts a → ArePrograms under scripts b → a ≡ b
   programs_once [] a b h k = h ∙ sym k
   programs_once (script ∷ scripts) a b (r, is, h) (q, goes, k) =
       behind_once script.0 q (λ rest. ArePrograms under scripts rest) (programs_once scripts) a b
@@ -48,7 +48,7 @@ module _ (texts : TextsAreAnswered) (under : JobUnder) where
   behind_some key (Ok program) Rest rest = (with_first (record { key = key; program = program }) rest.0, (rest.0, rest.1, refl))
   behind_some key (Err wrong) Rest rest = (Err (record { key = key; refusal = wrong }), refl)
 
-  programs_some : (scripts : List (List ℕ × List ℕ)) → (answer : Result (List JobProgram) RefusedScript) × ArePrograms under scripts answer
+  pub programs_some : (scripts : List (List ℕ × List ℕ)) → (answer : Result (List JobProgram) RefusedScript) × ArePrograms under scripts answer
   programs_some [] = (Ok [], refl)
   programs_some (script ∷ scripts) =
       let r = texts under.allow (types_of under.job.context script.0) script.1 in
@@ -75,6 +75,32 @@ module _ (under : JobUnder) where
   first_read : (scripts : List (List ℕ × List ℕ)) (answer : Result (List JobProgram) RefusedScript) → ArePrograms under scripts answer → ReadsFirst answer
   first_read [] answer at = subst ReadsFirst (sym at) tt
   first_read (script ∷ scripts) answer (reading, is, h) = first_behind script.0 script.1 reading (λ rest. ArePrograms under scripts rest) answer is h
+
+-- each of the programs is that of a text
+abbrev pub AreRead : JobUnder → List JobProgram → Type 0
+AreRead under [] = Unit {0}
+AreRead under (program ∷ programs) = ((text : List ℕ) × IsProgramOf under.allow (types_of under.job.context program.key) text (Ok program.program)) × AreRead under programs
+
+abbrev ReadSo : JobUnder → Result (List JobProgram) RefusedScript → Type 0
+ReadSo under (Ok programs) = AreRead under programs
+ReadSo under (Err wrong) = Unit {0}
+
+with_read : (under : JobUnder) (program : JobProgram) (rest : Result (List JobProgram) RefusedScript) → ((text : List ℕ) × IsProgramOf under.allow (types_of under.job.context program.key) text (Ok program.program))
+    → ReadSo under rest → ReadSo under (with_first program rest)
+with_read under program (Ok programs) is are = (is, are)
+with_read under program (Err wrong) is are = tt
+
+behind_read : (under : JobUnder) (key text : List ℕ) (reading : Result Program Refusal) (Rest : Result (List JobProgram) RefusedScript → Type 0)
+    → ((rest : Result (List JobProgram) RefusedScript) → Rest rest → ReadSo under rest) → (found : Result (List JobProgram) RefusedScript)
+    → IsProgramOf under.allow (types_of under.job.context key) text reading → BehindScript key reading Rest found → ReadSo under found
+behind_read under key text (Ok program) Rest more found is (rest, goes, at) =
+    subst (ReadSo under) (sym at) (with_read under (record { key = key; program = program }) rest (text, is) (more rest goes))
+behind_read under key text (Err wrong) Rest more found is at = subst (ReadSo under) (sym at) tt
+
+pub programs_read : (under : JobUnder) (texts : List (List ℕ × List ℕ)) (found : Result (List JobProgram) RefusedScript) → ArePrograms under texts found → ReadSo under found
+programs_read under [] found at = subst (ReadSo under) (sym at) tt
+programs_read under (text ∷ texts) found (reading, is, h) =
+    behind_read under text.0 text.1 reading (λ rest. ArePrograms under texts rest) (programs_read under texts) found is h
 
 -- ---- the job
 

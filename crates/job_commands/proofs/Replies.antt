@@ -44,17 +44,17 @@ which_back which.Ticks = refl
 which_back which.Room = refl
 
 -- an end of the code as that of a run
-end_back : (end : End) (w : World) → end ≡ end_of (end_seen end w)
+pub end_back : (end : End) (w : World) → end ≡ end_of (end_seen end w)
 end_back (o.Value value) w = refl
 end_back (o.Thrown id place) w = refl
 end_back (o.Limit limit place) w = ap (λ (x : Which). o.Limit x place) (which_back limit)
 
-objects_back : (end : End) (w : World) → w.store.objects ≡ objects_of (end_seen end w)
+pub objects_back : (end : End) (w : World) → w.store.objects ≡ objects_of (end_seen end w)
 objects_back (o.Value value) w = refl
 objects_back (o.Thrown id place) w = refl
 objects_back (o.Limit limit place) w = refl
 
-reached_back : (end : End) (w : World) → w.reached ≡ reached_of (end_seen end w)
+pub reached_back : (end : End) (w : World) → w.reached ≡ reached_of (end_seen end w)
 reached_back (o.Value value) w = refl
 reached_back (o.Thrown id place) w = refl
 reached_back (o.Limit limit place) w = refl
@@ -113,7 +113,7 @@ same_ended a b end objects reached steps =
     ∙ ap (λ (n : ℕ). record { end = b.end; objects = b.objects; reached = b.reached; steps = n }) steps
 
 module _ (ends : ProgramsEndOnce) (counts : CodesCountOnce) where
-  beside_once : (p : Prepared) (codes : ScriptCodes) (start : Start) (a b : Ended) → EndsBeside p codes start a → EndsBeside p codes start b → a ≡ b
+  pub beside_once : (p : Prepared) (codes : ScriptCodes) (start : Start) (a b : Ended) → EndsBeside p codes start a → EndsBeside p codes start b → a ≡ b
   beside_once p codes start a b h k =
       let same : h.ended ≡ k.ended = ends p.programs.first.program empty_program (limits_in p) start.args (world_in p start.store) h.ended k.ended h.runs k.runs in
       same_ended a b (h.end ∙ ap end_of same ∙ sym k.end) (h.objects ∙ ap objects_of same ∙ sym k.objects) (h.reached ∙ ap reached_of same ∙ sym k.reached)
@@ -149,7 +149,7 @@ module _ (ends : ProgramsEnd) (counted : ListedCodesCount) (p : Prepared) (has :
   abbrev types : ContextTypes
   types = types_of p.under.job.context p.programs.first.key
 
-  beside_some : (codes : ScriptCodes) → IsListed p.under.allow types p.programs.first.program empty_program codes → (start : Start)
+  pub beside_some : (codes : ScriptCodes) → IsListed p.under.allow types p.programs.first.program empty_program codes → (start : Start)
       → HaveAll (types_in (map variable_of types.variables)) start.args → (ran : Ended) × EndsBeside p codes start ran
   beside_some codes listed start all =
       let end =

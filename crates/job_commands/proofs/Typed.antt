@@ -1,5 +1,5 @@
 -- The contexts are contexts, and the arguments of what their lines are bound to are of the types of their variables.
-use Rattle.std.proofs.Common.{◌≡◌, ◌≢◌, ℕ, List, Some, Ok, codes, get_or, length, map, refl, sym, ap, subst, arith}
+use Rattle.std.proofs.Common.{◌≡◌, ◌≢◌, ℕ, Bool, true, false, if◌then◌else◌, List, Some, Ok, codes, get_or, length, map, refl, sym, ap, subst, arith}
 use Rattle.std.proofs.lemmas.Option.{none-some, same_Some}
 use Rattle.pl_types.specs.declared.ty.Ty.{out-Ty}
 use Rattle.pl_types.specs.declared.ty.Ty.TheVariants as t
@@ -24,7 +24,7 @@ use Rattle.document_replies.specs.Searches.{HasArguments, search_context as sear
 use Rattle.document_replies.specs.Starts.{Start}
 use Rattle.document_replies.proofs.Changing.{HasCtx, changes_take}
 use Rattle.document_replies.proofs.Starts.{documents_take}
-use Rattle.job_commands.specs.Contexts.{change_types, changes_in, context_in, documents_in, keys_in, own_types, row_of, search_types, types_of}
+use Rattle.job_commands.specs.Contexts.{change_types, changes_in, context_in, documents_in, is_test, keys_in, own_types, pipe_types, row_of, search_types, test_types, types_of}
 
 params_no_doc : codes "params" ≢ codes "doc"
 params_no_doc e = let n : 6 ≡ 3 = ap length e in omega (arith, n)
@@ -52,6 +52,16 @@ change_context : IsContext change_types
 unfolding out-Ty denote.Hole.Carrier.out
 change_context = record { distinct = ((params_no_ctx, tt), (tt, tt)); present = (tt, (tt, tt)); result = tt }
 
+test_context : IsContext test_types
+unfolding out-Ty denote.Hole.Carrier.out
+test_context = record { distinct = ((params_no_ctx, tt), (tt, tt)); present = (tt, (tt, tt)); result = built_named (t.Prim prim.Boolean) (prim_built prim.Boolean) }
+
+pipe_context : (path : List ℕ) → IsContext (pipe_types path)
+pipe_context path = by (is_test path) where
+  by : (b : Bool) → IsContext (if b then test_types else change_types)
+  by true = test_context
+  by false = change_context
+
 own_context : IsContext own_types
 unfolding out-Ty denote.Hole.Carrier.out
 own_context = record { distinct = tt; present = tt; result = built_named t.Def def_built }
@@ -65,8 +75,8 @@ row_context c.Field key = search_context k.Field
 row_context c.Update key = change_context
 row_context c.Ingest key = change_context
 row_context c.Metric key = own_context
-row_context c.Updates key = own_context
-row_context c.Pipe key = own_context
+row_context c.Updates key = change_context
+row_context c.Pipe key = pipe_context key
 row_context c.Serve key = own_context
 row_context c.FunctionScore key = own_context
 
@@ -80,9 +90,16 @@ has_types k.Filter args (params, doc, is) = subst (HaveAll (types_in (map variab
 has_types k.Score args (params, doc, score, is) = subst (HaveAll (types_in (map variable_of (search_types k.Score).variables))) (sym is) (tt, (tt, ((score, refl), tt)))
 has_types k.Field args (params, doc, is) = subst (HaveAll (types_in (map variable_of (search_types k.Field).variables))) (sym is) (tt, (tt, tt))
 
-ctx_types : (args : List Value) → HasCtx args → HaveAll (types_in (map variable_of change_types.variables)) args
+pub ctx_types : (args : List Value) → HasCtx args → HaveAll (types_in (map variable_of change_types.variables)) args
 unfolding out-Ty denote.Hole.Carrier.out
 ctx_types args (params, ctx, is) = subst (HaveAll (types_in (map variable_of change_types.variables))) (sym is) (tt, (tt, tt))
+
+-- the params and `ctx` are what each script of a pipeline takes
+pub pipe_takes : (path : List ℕ) (args : List Value) → HasCtx args → HaveAll (types_in (map variable_of (pipe_types path).variables)) args
+pipe_takes path args has = by (is_test path) where
+  by : (b : Bool) → HaveAll (types_in (map variable_of (if b then test_types else change_types).variables)) args
+  by true = ctx_types args has
+  by false = ctx_types args has
 
 -- ---- the starts of a context have arguments of the types of its variables
 

@@ -1,5 +1,6 @@
 -- The contexts of jobs, one row each: what a script sees and gives, and what the lines of a job are, where it has any.
-use Rattle.std.specs.Prelude.{ℕ, Bool, true, false, List, [], ◌∷◌, Option, Some, None, codes}
+use Rattle.std.specs.Prelude.{ℕ, Bool, true, false, List, [], ◌∷◌, Option, Some, None, codes, nat_eq, if◌then◌else◌}
+use Rattle.std.specs.List.{ends_with}
 use Rattle.pl_types.specs.declared.ty.Ty.{Ty}
 use Rattle.pl_types.specs.declared.ty.Ty.TheVariants as t
 use Rattle.pl_types.specs.declared.primitive.Primitive.TheVariants as prim
@@ -35,6 +36,17 @@ search_types k.Field = record { variables = params_and_doc []; result = t.Def }
 -- the params and the document that is changed; a script that changes it gives nothing
 abbrev pub change_types : ContextTypes
 change_types = record { variables = variable (codes "params") (t.Class MAP) ∷ variable (codes "ctx") (t.Class MAP) ∷ []; result = t.Void }
+
+-- a test of a processor sees the same and says whether the processor acts
+abbrev pub test_types : ContextTypes
+test_types = record { variables = change_types.variables; result = t.Prim prim.Boolean }
+
+-- whether the path of a script of a pipeline is that of a test: its last name is `if`
+abbrev pub is_test : List ℕ → Bool
+is_test path = ends_with nat_eq path (codes ".if")
+
+abbrev pub pipe_types : List ℕ → ContextTypes
+pipe_types path = if is_test path then test_types else change_types
 
 -- a script of its own sees no variables and gives any value
 abbrev pub own_types : ContextTypes
@@ -77,10 +89,12 @@ row_of c.Score = search_row k.Score
 row_of c.Field = search_row k.Field
 row_of c.Update = change_row w.Update
 row_of c.Ingest = change_row w.Ingest
+-- the script of many updates is that of an update; how its lines are answered hangs on all of them
+row_of c.Updates = record { types = λ key. change_types; lines = λ job. None; by_key = false }
+-- the scripts of a pipeline are told by their paths; how its lines are answered says more than one script
+row_of c.Pipe = record { types = pipe_types; lines = λ job. None; by_key = true }
 -- these are not built, and no job of theirs is read
 row_of c.Metric = record { types = λ key. own_types; lines = λ job. None; by_key = true }
-row_of c.Updates = own_row
-row_of c.Pipe = own_row
 row_of c.Serve = own_row
 row_of c.FunctionScore = own_row
 

@@ -41,7 +41,7 @@ fn push_both(script: String, prelude: String, listings: &mut Vec<String>) -> Res
 }
 
 /// Puts the listing of a script's code last, and that of the prelude's.
-fn push_listings(
+pub fn push_listings(
     alloc: Global,
     script: &Script,
     listings: &mut Vec<String>,
@@ -66,7 +66,7 @@ fn push_all(alloc: Global, scripts: &[Script], listings: &mut Vec<String>) -> Re
 }
 
 /// The listings of the codes of a job's scripts, two for each.
-pub(crate) fn listings_of(alloc: Global, scripts: &JobScripts) -> Result<Vec<String>, AllocError>
+pub fn listings_of(alloc: Global, scripts: &JobScripts) -> Result<Vec<String>, AllocError>
     ensures { IfOk result (λ listings. map string_bytes listings.items ≡ listings_of (codes_of scripts.now)) }
 {
     let mut listings = Vec::new(alloc);

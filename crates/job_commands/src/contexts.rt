@@ -1,11 +1,11 @@
 //! The contexts of jobs: what scripts of each see and give, and what the lines of a job are.
 
-ghost use Rattle.std.specs.Prelude.{◌≡◌, IfOk, option_map};
+ghost use Rattle.std.specs.Prelude.{◌≡◌, IfOk, option_map, codes, if◌then◌else◌};
 ghost use Rattle.job_file.specs.Answers.{fields_view, job_view};
 ghost use Rattle.search_ctx.specs.Fields.{HasDistinctNames};
 ghost use Rattle.document_replies.specs.LinesSeen.{changes_of, lines_seen};
 ghost use Rattle.document_replies.specs.Searches.{documents_of};
-ghost use Rattle.job_commands.specs.Contexts.{change_row, change_types, changes_in, context_in, documents_in, keys_in, own_types, row_of, search_row, search_types, types_of, variable};
+ghost use Rattle.job_commands.specs.Contexts.{change_row, change_types, changes_in, context_in, documents_in, is_test, keys_in, own_types, pipe_types, row_of, search_row, search_types, test_types, types_of, variable};
 
 use document_replies::{ChangeContext, JobLines, SearchContext, ShownKeys, WriteKind};
 use job_file::{Job, JobContext};
@@ -64,17 +64,52 @@ fn search_types(alloc: Global, kind: SearchKind) -> Result<ContextTypes, AllocEr
     })
 }
 
-/// Those of a context of documents that a script changes.
-fn change_types(alloc: Global) -> Result<ContextTypes, AllocError>
-    ensures { IfOk result (λ types. types ≡ change_types) }
+/// The variables of a context of documents that a script changes.
+fn change_variables(alloc: Global) -> Result<Items<Named>, AllocError>
+    ensures { IfOk result (λ variables. variables ≡ change_types.variables) }
 {
     let mut variables = Items::new(alloc);
     variables.push(variable(alloc, "params", Ty::Class(MAP))?)?;
     variables.push(variable(alloc, "ctx", Ty::Class(MAP))?)?;
+    Ok(variables)
+}
+
+/// The variables and the result of such a context.
+fn change_types(alloc: Global) -> Result<ContextTypes, AllocError>
+    ensures { IfOk result (λ types. types ≡ change_types) }
+{
     Ok(ContextTypes {
-        variables,
+        variables: change_variables(alloc)?,
         result: Ty::Void,
     })
+}
+
+/// Those of a test of a document that is changed.
+fn test_types(alloc: Global) -> Result<ContextTypes, AllocError>
+    ensures { IfOk result (λ types. types ≡ test_types) }
+{
+    Ok(ContextTypes {
+        variables: change_variables(alloc)?,
+        result: Ty::Prim(Primitive::Boolean),
+    })
+}
+
+/// Whether the path of a script of a pipeline is that of a test.
+pub fn is_test(path: &str) -> bool
+    ensures { result ≡ is_test path.now }
+{
+    path.as_bytes().ends_with(b".if".as_slice())
+}
+
+/// The variables and the result of the script of a path of a pipeline.
+fn pipe_types(alloc: Global, path: &str) -> Result<ContextTypes, AllocError>
+    ensures { IfOk result (λ types. types ≡ pipe_types path.now) }
+{
+    if is_test(path) {
+        test_types(alloc)
+    } else {
+        change_types(alloc)
+    }
 }
 
 /// Those of a script of its own.
@@ -88,22 +123,21 @@ fn own_types(alloc: Global) -> ContextTypes
 }
 
 /// The variables and the result of the script of a context under a key.
-pub(crate) fn context_types(
+pub fn context_types(
     alloc: Global,
     context: JobContext,
-    _key: &str,
+    key: &str,
 ) -> Result<ContextTypes, AllocError>
-    ensures { IfOk result (λ types. types ≡ types_of context _key.now) }
+    ensures { IfOk result (λ types. types ≡ types_of context key.now) }
 {
     match context {
         JobContext::Filter => search_types(alloc, SearchKind::Filter),
         JobContext::Score => search_types(alloc, SearchKind::Score),
         JobContext::Field => search_types(alloc, SearchKind::Field),
-        JobContext::Update | JobContext::Ingest => change_types(alloc),
+        JobContext::Update | JobContext::Ingest | JobContext::Updates => change_types(alloc),
+        JobContext::Pipe => pipe_types(alloc, key),
         JobContext::Eval
         | JobContext::Metric
-        | JobContext::Updates
-        | JobContext::Pipe
         | JobContext::Serve
         | JobContext::FunctionScore => Ok(own_types(alloc)),
     }
@@ -114,7 +148,7 @@ pub(crate) fn tells_keys(context: JobContext) -> bool
     ensures { result ≡ (row_of context).by_key }
 {
     match context {
-        JobContext::Metric => true,
+        JobContext::Metric | JobContext::Pipe => true,
         JobContext::Eval
         | JobContext::Filter
         | JobContext::Score
@@ -122,7 +156,6 @@ pub(crate) fn tells_keys(context: JobContext) -> bool
         | JobContext::Update
         | JobContext::Ingest
         | JobContext::Updates
-        | JobContext::Pipe
         | JobContext::Serve
         | JobContext::FunctionScore => false,
     }

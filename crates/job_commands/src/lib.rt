@@ -18,7 +18,12 @@ mod starts;
 mod tally;
 
 pub use check_command::check;
+pub use codes::{listings_of, push_listings};
+pub use contexts::{context_types, is_test};
 pub use gen_command::gen_;
 pub use list_command::list;
-pub use run_command::run;
+pub use preparing::{JobScripts, PreparedJob, prepare, script_of};
+pub use run_command::{report_of, run};
+pub use script::LimitedScript;
+pub use script_engine::{Limits, Script, VerifiedPrelude, code_laws, script_laws};
 pub use starts::lines_start_well;

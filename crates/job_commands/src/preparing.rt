@@ -25,9 +25,9 @@ use script_engine::{Script, VerifiedPrelude, compile_beside};
 use std::alloc::{AllocError, Global};
 
 /// The scripts of a job, in their order.
-pub(crate) struct JobScripts {
-    pub(crate) first: Script,
-    pub(crate) more: Vec<Script>,
+pub struct JobScripts {
+    pub first: Script,
+    pub more: Vec<Script>,
 }
 
 impl Drop for JobScripts {
@@ -41,7 +41,7 @@ impl Drop for JobScripts {
 
 impl JobScripts {
     /// The first one.
-    pub(crate) fn into_first(self) -> Script
+    pub fn into_first(self) -> Script
         ensures { result ≡ self.first }
     {
         let JobScripts { first, more: _more } = self;
@@ -50,9 +50,9 @@ impl JobScripts {
 }
 
 /// A job with its scripts.
-pub(crate) struct PreparedJob {
-    pub(crate) found: ReadJob,
-    pub(crate) scripts: JobScripts,
+pub struct PreparedJob {
+    pub found: ReadJob,
+    pub scripts: JobScripts,
 }
 
 impl Drop for PreparedJob {
@@ -66,7 +66,7 @@ impl Drop for PreparedJob {
 
 impl PreparedJob {
     /// The job and its scripts.
-    pub(crate) fn into_parts(self) -> (ReadJob, JobScripts)
+    pub fn into_parts(self) -> (ReadJob, JobScripts)
         ensures found { result.0 ≡ self.found }
         ensures scripts { result.1 ≡ self.scripts }
     {
@@ -86,8 +86,8 @@ fn script_refused(alloc: Global, context: JobContext, key: &str, wrong: Refusal)
     }
 }
 
-/// The script of a job under a key.
-fn script_of(
+/// The script of a text of a job, which stands under a key.
+pub fn script_of(
     alloc: Global,
     found: &ReadJob,
     prelude: &VerifiedPrelude,
@@ -187,7 +187,7 @@ pub(crate) fn prepare_found(alloc: Global, found: ReadJob) -> Result<PreparedJob
 }
 
 /// The job in the file of a name, for a command, with its scripts, or why the command ends.
-pub(crate) fn prepare<F: Files>(
+pub fn prepare<F: Files>(
     alloc: Global,
     command: JobCommand,
     name: &str,

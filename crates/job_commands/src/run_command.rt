@@ -27,7 +27,7 @@ use script_engine::{code_laws, script_laws};
 use std::alloc::Global;
 
 /// The report of a run over lines, which has listings where it came to the end of its input.
-fn report_of(alloc: Global, ran: Ran, listings: Vec<String>) -> Report
+pub fn report_of(alloc: Global, ran: Ran, listings: Vec<String>) -> Report
     requires { ran.status ≢ Status.Done → ran.status ≢ Status.SomeErrors → ran.steps ≡ 0 }
     ensures ran { ran_by result ≡ ran }
     ensures lists { Lists (map string_bytes listings.items) result }

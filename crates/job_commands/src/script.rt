@@ -11,9 +11,9 @@ use std::alloc::{AllocError, Global};
 use std::mem;
 
 /// A script with its limits but for the room.
-pub(crate) struct LimitedScript {
-    pub(crate) script: Script,
-    pub(crate) limits: Limits,
+pub struct LimitedScript {
+    pub script: Script,
+    pub limits: Limits,
 }
 
 impl Drop for LimitedScript {

@@ -5,5 +5,5 @@ mod reading;
 mod stops;
 
 pub use allowlist::{Allow, Catalogue};
-pub use reading::{ReadJob, read_job};
+pub use reading::{ReadJob, job_of, list_for, read_job, seed_of};
 pub use stops::key_refused;

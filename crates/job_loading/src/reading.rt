@@ -43,7 +43,7 @@ impl Drop for ReadJob {
 }
 
 /// The job of the bytes of a job file.
-fn job_of(alloc: Global, command: JobCommand, bytes: &[u8]) -> Result<Job, Stop>
+pub fn job_of(alloc: Global, command: JobCommand, bytes: &[u8]) -> Result<Job, Stop>
     ensures told { ComesSo job_view result (job_told (job_in_bytes command bytes.now)) }
     ensures distinct { IfOk result (λ job. HasDistinctNames (fields_view job.mapping.fields.items)) }
     ensures quiet { IfErr result (λ stop. stop ≢ Stop.FileFault) }
@@ -101,7 +101,7 @@ fn list_named<F: Files>(
 }
 
 /// The list of a job whose own file has a name and these bytes.
-fn list_for<F: Files>(
+pub fn list_for<F: Files>(
     alloc: Global,
     job: &Job,
     name: &str,
@@ -123,7 +123,7 @@ fn list_for<F: Files>(
 }
 
 /// From what the heaps of a job's runs are made, beside their documents, which changes no answer.
-fn seed_of(bytes: &[u8]) -> Seed
+pub fn seed_of(bytes: &[u8]) -> Seed
     ensures { result ≡ seed_of bytes.now }
 {
     Seed::of(bytes)
