@@ -10,8 +10,8 @@ use Rattle.command_parts.specs.Told.{Told, silent}
 use Rattle.command_parts.proofs.Asking.{asks_always, asks_none}
 use Rattle.command_parts.proofs.Delivering.{nothing, some_content, some_input}
 use Rattle.command_parts.proofs.Ends.{ends_unread, ends_unasked, with_input}
-use Rattle.job_commands.specs.Generated.{AreFixedCodes, TellsGen}
-use Rattle.job_commands.specs.Tellings.{gen_telling}
+use Rattle.pipe_command.specs.Generated.{AreFixedCodes, TellsGen}
+use Rattle.pipe_command.specs.Tellings.{gen_telling}
 use Rattle.painless.specs.declared.words.Command.{Command}
 use Rattle.painless.specs.Whole.{Call, call_of, telling_named, telling_call, telling_of, usage_telling}
 

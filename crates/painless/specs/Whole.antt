@@ -7,7 +7,8 @@ use Rattle.command_parts.specs.declared.status.Status.TheVariants as s
 use Rattle.command_parts.specs.Ends.{Content, NoCodes, Telling}
 use Rattle.command_parts.specs.Told.{Told, silent}
 use Rattle.eval_command.specs.Tellings.{eval_telling}
-use Rattle.job_commands.specs.Tellings.{check_telling, list_telling, run_telling, gen_telling}
+use Rattle.pipe_command.specs.Tellings.{check_telling, list_telling, run_telling, gen_telling}
+use Rattle.pipe_command.specs.Telling.{pipe_telling}
 use Rattle.painless.specs.declared.words.Command.{Command}
 use Rattle.painless.specs.declared.words.Command.TheVariants as c
 
@@ -22,7 +23,9 @@ command_named word =
     then Some c.Eval
     else if bytes_eq word (codes "check")
     then Some c.Check
-    else if bytes_eq word (codes "list") then Some c.List else if bytes_eq word (codes "run") then Some c.Run else None
+    else if bytes_eq word (codes "list")
+    then Some c.List
+    else if bytes_eq word (codes "run") then Some c.Run else if bytes_eq word (codes "pipe") then Some c.Pipe else None
 
 -- `gen` makes 1 to 1,000,000 documents
 abbrev pub gen_of : Option ℕ → Option Call
@@ -51,6 +54,7 @@ telling_named c.Eval name = eval_telling name
 telling_named c.Check name = check_telling name
 telling_named c.List name = list_telling name
 telling_named c.Run name = run_telling name
+telling_named c.Pipe name = pipe_telling name
 
 -- of words that are no command: no file is asked for, and nothing is written
 abbrev pub usage_telling : Telling

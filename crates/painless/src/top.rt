@@ -7,8 +7,8 @@ ghost use Rattle.painless.specs.Whole.{telling_named, telling_of};
 use crate::words::{Called, Command, call_of};
 use command_parts::{Report, Status};
 use eval_command::eval;
-use job_commands::{check, gen_, list, run};
 use outer_io::{Files, Sink, Source};
+use pipe_command::{check, gen_, list, pipe, run};
 use std::alloc::Global;
 
 /// Runs the command that the words say, over these files, this input and this sink.
@@ -16,11 +16,12 @@ use std::alloc::Global;
 /// `words` are those after the program's name. `eval FILE` runs the script that stands in the file and writes one line, its reply or
 /// its refusal. `check FILE` compiles the script of the job in the file, and writes that it is accepted or why it is refused. `list FILE`
 /// compiles it and writes the listing of its code, or that of the prelude's where the job asks for it.
-/// `run FILE` runs the script of the job in the file over each line of the input, and writes the replies. `gen N` makes so many documents,
+/// `run FILE` runs the script of the job in the file over each line of the input, and writes the replies. `pipe FILE` passes the document of
+/// each line of the input through the pipeline of the job in the file, and writes the replies. `gen N` makes so many documents,
 /// from 1 to 1,000,000, runs a fixed job over them, and writes a summary. The report's status says how
 /// the run ended; with `ReadFault`, `WriteFault`, `NoMemory` and `InputLong` some of what is told may be missing, with `Usage` and
-/// the statuses of files nothing is written. With status 0 or 1 of `eval`, `run` and `gen` the report has the listing of the script's code
-/// and that of the prelude's, and how many instructions were run.
+/// the statuses of files nothing is written. With status 0 or 1 of `eval`, `run`, `pipe` and `gen` the report has the listing of the code of each
+/// script and that of the prelude's, and how many instructions were run.
 pub fn painless<F: Files, S: Source, K: Sink>(
     alloc: Global,
     words: &[String],
@@ -63,5 +64,6 @@ fn called<F: Files, S: Source, K: Sink>(
         Command::Check => check(alloc, name, files, out),
         Command::List => list(alloc, name, files, out),
         Command::Run => run(alloc, name, files, input, out),
+        Command::Pipe => pipe(alloc, name, files, input, out),
     }
 }

@@ -20,6 +20,8 @@ pub enum Command {
     List,
     /// Runs the script of a job over the input.
     Run,
+    /// Passes the documents of the input through the pipeline of a job.
+    Pipe,
 }
 
 /// What the words call.
@@ -49,6 +51,7 @@ fn command_named(word: &str) -> Option<Command>
         "check" => Some(Command::Check),
         "list" => Some(Command::List),
         "run" => Some(Command::Run),
+        "pipe" => Some(Command::Pipe),
         _ => None,
     }
 }

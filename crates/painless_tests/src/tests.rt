@@ -11,7 +11,7 @@ const PRELUDE: &str = "painless 1\nfun 0 free V - -\nret\nend\n";
 
 /// A command, the file that its word names, the input, what is written, the listing of the script in the report, and how many
 /// instructions it has.
-const ROWS: [(&str, &str, &str, &str, &str, u64); 5] = [
+const ROWS: [(&str, &str, &str, &str, &str, u64); 6] = [
     (
         "eval",
         "6*7",
@@ -52,10 +52,18 @@ const ROWS: [(&str, &str, &str, &str, &str, u64); 5] = [
         "painless 1\nfun 0 loop R RR -\ni 1\nbox int\nret\nend\n",
         3,
     ),
+    (
+        "pipe",
+        "{\"context\":\"pipe\",\"pipeline\":[{\"script\":{\"source\":\"ctx.a = 1\"}}]}",
+        "{\"_source\":{}}\n\n{\"_id\":\"1\",\"_source\":{}}",
+        "{\"_id\":\"\",\"_index\":\"docs\",\"_source\":{\"a\":1}}\n{\"_id\":\"1\",\"_index\":\"docs\",\"_source\":{\"a\":1}}\n",
+        "painless 1\nfun 0 loop V RR -\nload 1\ntext \"a\"\ni 1\nbox int\ndupx2\ninvoke java.util.Map.put/2\npop\npop\nret\nend\n",
+        18,
+    ),
 ];
 
 /// Words that are no command with its one word.
-const NO_COMMANDS: [&[&str]; 17] = [
+const NO_COMMANDS: [&[&str]; 18] = [
     &[],
     &["run"],
     &["run", "a", "b"],
@@ -63,6 +71,7 @@ const NO_COMMANDS: [&[&str]; 17] = [
     &["eval"],
     &["check"],
     &["list"],
+    &["pipe"],
     &["Eval", "f"],
     &["eval", "f", "f"],
     &["gen"],

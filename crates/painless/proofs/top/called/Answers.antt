@@ -3,7 +3,7 @@ use Rattle.std.proofs.Common.{◌≡◌, [], refl}
 use Rattle.command_parts.specs.Ends.{Outside, of_files}
 use Rattle.command_parts.proofs.Ends.{ends_unread}
 use Rattle.eval_command.specs.Tellings.{eval_telling}
-use Rattle.job_commands.specs.Tellings.{check_telling, list_telling}
+use Rattle.pipe_command.specs.Tellings.{check_telling, list_telling}
 use Rattle.painless.specs.declared.words.Command.TheVariants as command
 use Rattle.painless.proofs.Ends.{named_so}
 use Rattle.painless.proofs.top.called.Goals as goal
@@ -55,3 +55,9 @@ returns-in-Run g c =
     let before : Outside = record { content = g.F.Files.content c.args.files.now; asked = g.F.Files.asked c.args.files.now; file_faults = g.F.Files.faults c.args.files.now; left = g.S.Source.left c.args.input.now; read_faults = g.S.Source.faults c.args.input.now; held = g.K.Sink.held c.args.out.now; write_faults = g.K.Sink.faults c.args.out.now } in
     let after : Outside = record { content = g.F.Files.content c.run.new.files; asked = g.F.Files.asked c.run.new.files; file_faults = g.F.Files.faults c.run.new.files; left = g.S.Source.left c.run.new.input; read_faults = g.S.Source.faults c.run.new.input; held = g.K.Sink.held c.run.new.out; write_faults = g.K.Sink.faults c.run.new.out } in
     record { ends = named_so before after (c.run.new.input ≡ c.args.input.now) c.run.result c.args.name.now c.args.command command.Run c.in-Run.is c.run.ensures.ends }
+
+pub returns-in-Pipe : goal.returns-in-Pipe
+returns-in-Pipe g c =
+    let before : Outside = record { content = g.F.Files.content c.args.files.now; asked = g.F.Files.asked c.args.files.now; file_faults = g.F.Files.faults c.args.files.now; left = g.S.Source.left c.args.input.now; read_faults = g.S.Source.faults c.args.input.now; held = g.K.Sink.held c.args.out.now; write_faults = g.K.Sink.faults c.args.out.now } in
+    let after : Outside = record { content = g.F.Files.content c.pipe.new.files; asked = g.F.Files.asked c.pipe.new.files; file_faults = g.F.Files.faults c.pipe.new.files; left = g.S.Source.left c.pipe.new.input; read_faults = g.S.Source.faults c.pipe.new.input; held = g.K.Sink.held c.pipe.new.out; write_faults = g.K.Sink.faults c.pipe.new.out } in
+    record { ends = named_so before after (c.pipe.new.input ≡ c.args.input.now) c.pipe.result c.args.name.now c.args.command command.Pipe c.in-Pipe.is c.pipe.ensures.ends }
