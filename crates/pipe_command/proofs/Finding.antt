@@ -19,7 +19,7 @@ use Rattle.job_loading.specs.Asked.{list_asked}
 use Rattle.job_loading.specs.Loading.{JobUnder, job_in_bytes, job_in_file, job_told, list_named, under}
 use Rattle.job_loading.proofs.Found.{one_found}
 use Rattle.pipe_job.specs.ingest_pipe_declared.processors.Pipeline.{Pipeline}
-use Rattle.pipe_command.specs.Pipelines.{PipeUnder, asked_behind_job, asked_behind_pipeline, behind_job, behind_pipeline, pipe_asked, pipe_under, pipeline_by, pipeline_in, with_pipeline}
+use Rattle.pipe_command.specs.Pipelines.{PipeUnder, asked_behind_job, asked_behind_pipeline, behind_job, behind_pipeline, no_pipeline, pipe_asked, pipe_under, pipeline_by, pipeline_in, pipeline_refusal, pipeline_told, with_pipeline}
 use Rattle.pipe_command.specs.Preparing.{pipe_view}
 use Rattle.pipe_command.specs.declared.reading.ReadPipe.{ReadPipe}
 
@@ -67,6 +67,33 @@ if_some (Some t) P Q to h = to t h
 -- what stops tells that this is refused
 pub refused_so : {X : Type 0} (told : Option Told) (refused : Told) (meaning : Result X Told) → meaning ≡ Err refused → IfSome told (λ t. t ≡ refused) → IfSome told (λ t. meaning ≡ Err t)
 refused_so told refused meaning is = if_some told (λ t. t ≡ refused) (λ t. meaning ≡ Err t) (λ t same. is ∙ ap Err (sym same))
+
+-- the pipeline of a value is read
+pub pipeline_read : (meaning : Result Pipeline (List ℕ)) (pipeline : Pipeline) → meaning ≡ Ok pipeline → pipeline_told meaning ≡ Ok pipeline
+pipeline_read meaning pipeline is = ap pipeline_told is
+
+-- .. or a place of it is wrong
+pub pipeline_bad : (meaning : Result Pipeline (List ℕ)) (path : List ℕ) (stop : Stop) → meaning ≡ Err path → IfSome (stop_told stop) (λ t. t ≡ pipeline_refusal path)
+    → IfSome (stop_told stop) (λ t. pipeline_told meaning ≡ Err t)
+pipeline_bad meaning path stop is = refused_so (stop_told stop) (pipeline_refusal path) (pipeline_told meaning) (ap pipeline_told is)
+
+-- a job of another context has none
+pub no_pipe : (of : JobContext) (d : Data) (stop : Stop) → (of ≡ c.Pipe → ⊥) → IfSome (stop_told stop) (λ t. t ≡ no_pipeline) → IfSome (stop_told stop) (λ t. pipeline_by of d ≡ Err t)
+no_pipe c.Pipe d stop other = absurd (other refl)
+no_pipe c.Eval d stop other = refused_so (stop_told stop) no_pipeline (pipeline_by c.Eval d) refl
+no_pipe c.Filter d stop other = refused_so (stop_told stop) no_pipeline (pipeline_by c.Filter d) refl
+no_pipe c.Score d stop other = refused_so (stop_told stop) no_pipeline (pipeline_by c.Score d) refl
+no_pipe c.Field d stop other = refused_so (stop_told stop) no_pipeline (pipeline_by c.Field d) refl
+no_pipe c.Update d stop other = refused_so (stop_told stop) no_pipeline (pipeline_by c.Update d) refl
+no_pipe c.Ingest d stop other = refused_so (stop_told stop) no_pipeline (pipeline_by c.Ingest d) refl
+no_pipe c.Metric d stop other = refused_so (stop_told stop) no_pipeline (pipeline_by c.Metric d) refl
+no_pipe c.Updates d stop other = refused_so (stop_told stop) no_pipeline (pipeline_by c.Updates d) refl
+no_pipe c.Serve d stop other = refused_so (stop_told stop) no_pipeline (pipeline_by c.Serve d) refl
+no_pipe c.FunctionScore d stop other = refused_so (stop_told stop) no_pipeline (pipeline_by c.FunctionScore d) refl
+
+-- .. and one of this its own
+pub its_pipeline : (of : JobContext) (d : Data) (result : Result Pipeline Stop) → of ≡ c.Pipe → ComesSo (λ (p : Pipeline). p) result (pipeline_by c.Pipe d) → ComesSo (λ (p : Pipeline). p) result (pipeline_by of d)
+its_pipeline of d result is = subst (λ (x : JobContext). ComesSo (λ (p : Pipeline). p) result (pipeline_by x d)) (sym is)
 
 -- the job is refused
 pub job_missing : (content : List ℕ → Option (List ℕ)) (meaning : Result JobData Told) (stop : Stop) → IfSome (stop_told stop) (λ t. meaning ≡ Err t)

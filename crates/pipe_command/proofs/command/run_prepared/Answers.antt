@@ -2,6 +2,10 @@
 use Rattle.std.proofs.Common.{◌≡◌, List, ℕ, ap, subst, sym, ◌∙◌}
 use Rattle.document_replies.specs.line_run_declared.ran.Ran.{Ran}
 use Rattle.job_commands.specs.Documents.{Lists}
+use Rattle.job_commands.specs.Listing.{listings_of}
+use Rattle.job_commands.specs.declared.script.LimitedScript.{LimitedScript}
+use Rattle.pipe_job.specs.declared.answers.PipedScript.{PipedScript}
+use Rattle.pipe_command.specs.Preparing.{codes_of}
 use Rattle.pipe_command.proofs.Ends.{ends_nothing, job_passes, takes_so}
 use Rattle.pipe_command.proofs.command.run_prepared.Goals as goal
 
@@ -14,7 +18,8 @@ returns-in_default-clause-told g c =
 
 pub returns-clause-told : goal.returns-clause-told
 returns-clause-told g c = (
-  subst (λ (l : List (List ℕ)). Lists l c.report_of.result) c.in-Ok.ensures c.report_of.ensures.lists,
+  subst (λ (l : List (List ℕ)). Lists l c.report_of.result) (c.in-Ok.ensures ∙ ap (λ (xs : List (PipedScript LimitedScript)). listings_of (codes_of xs)) c.as_slice.ensures.value)
+      c.report_of.ensures.lists,
   job_passes c.args.job c.pipe_job-replier.result c.pipe_job-replier.ensures.pipeline c.pipe_job-replier.ensures.scripts c.pipe_job-replier.ensures.room c.run_lines-ran.result c.report_of.result
       (g.S.Source.left c.args.input.now) (g.S.Source.left c.run_lines-ran.new.input) (g.K.Sink.held c.args.out.now) (g.K.Sink.held c.run_lines-ran.new.out) c.report_of.ensures.ran
       (λ before is. c.run_lines-ran.ensures.passes before (is ∙ sym c.new.ensures.items)),
