@@ -136,10 +136,9 @@ pub fn context_types(
         JobContext::Field => search_types(alloc, SearchKind::Field),
         JobContext::Update | JobContext::Ingest | JobContext::Updates => change_types(alloc),
         JobContext::Pipe => pipe_types(alloc, key),
-        JobContext::Eval
-        | JobContext::Metric
-        | JobContext::Serve
-        | JobContext::FunctionScore => Ok(own_types(alloc)),
+        JobContext::Eval | JobContext::Metric | JobContext::Serve | JobContext::FunctionScore => Ok(
+            own_types(alloc),
+        ),
     }
 }
 
