@@ -1,5 +1,5 @@
 -- One thing is told of a job over an input, and what is delivered of it.
-use Rattle.std.proofs.Common.{◌≡◌, ℕ, inl, inr, List, [], ◌∷◌, map, Option, Result, Ok, Err, refl, sym, ap, ◌∙◌, subst}
+use Rattle.std.proofs.Common.{◌≡◌, ◌⊎◌, ℕ, inl, inr, List, [], ◌∷◌, map, Option, Result, Ok, Err, refl, sym, ap, ◌∙◌, subst}
 use Rattle.outer_io.specs.Front.{AppendsFront}
 use Rattle.outer_io.specs.Lines.{InputLine}
 use Rattle.job_commands.specs.Codes.{ScriptCodes}
@@ -11,9 +11,9 @@ use Rattle.command_parts.specs.declared.status.Status.TheVariants as s
 use Rattle.command_parts.specs.DeliversOver.{DeliversOver}
 use Rattle.command_parts.specs.Reports.{texts_of as report_texts, ReportsBy, Reports}
 use Rattle.command_parts.specs.Told.{Told}
-use Rattle.document_replies.specs.Passing.{PassesAll, PassesFront, PassesBy, listings_by}
-use Rattle.document_replies.specs.LineRunReplies.{Talk, Front, Reply, stateless, TellsInput, TellsTaken}
-use Rattle.document_replies.proofs.Talks.{Follows, IsOnce, stateless_follows, stateless_once, stateless_total, input_follow, taken_follow, front_follow, input_once, input_some, tells_front}
+use Rattle.document_replies.specs.Passing.{PassesAll, PassesEnd, PassesFront, PassesBy, listings_by}
+use Rattle.document_replies.specs.LineRunReplies.{Talk, Front, Reply, bytes_behind, stateless, TellsInput, TellsTaken}
+use Rattle.document_replies.proofs.Talks.{Follows, IsOnce, stateless_follows, stateless_once, stateless_total, input_follow, taken_follow, are_follow, input_once, input_some, tells_front}
 use Rattle.job_loading.specs.Loading.{JobUnder}
 use Rattle.pipe_job.specs.PipeDocuments.{DocData}
 use Rattle.pipe_job.specs.Replies.{Answer, meaning_of, reply_to}
@@ -159,10 +159,29 @@ module _ (texts : TextsAreAnsweredOnce) (ends : ProgramsEndOnce) (counts : Codes
       let here : TellsPiped (Ok p) codes input told = subst (λ (x : Result Piped Told). TellsPiped x codes input told) (job_once texts content name answer (Ok p) goes is) h in
       subst (λ (f : ℕ → DocData → Answer). TellsInput (talk_of p f) front limit input told) (answers_once ends counts p codes here.0 one.0 here.1 one.1) here.2
 
+  -- what stands behind the last line is the same
+  ended_too : (left old new : Option (List ℕ)) (passes : PassesFront Code front limit left old new)
+      → AppendsFront old new (bytes_behind front passes.replies) ⊎ PassesEnd Code front limit passes.input passes.lines passes.behind passes.replies old new
+      → AppendsFront old new (bytes_behind front passes.replies) ⊎ PassesEnd Means front limit passes.input passes.lines passes.behind passes.replies old new
+  ended_too left old new passes (inl h) = inl h
+  ended_too left old new passes (inr e) = inr (record { within = e.within; all = e.all; last = e.last; ends = all_mean.ends passes.lines e.last e.ends; appended = e.appended })
+
+  abbrev front_too : (left old new : Option (List ℕ)) → PassesFront Code front limit left old new → PassesFront Means front limit left old new
+  front_too left old new passes = record {
+    input = passes.input;
+    is = passes.is;
+    lines = passes.lines;
+    behind = passes.behind;
+    parts = passes.parts;
+    replies = passes.replies;
+    are = are_follow Code Means all_mean [] passes.lines passes.replies passes.are;
+    appended = ended_too left old new passes passes.appended;
+  }
+
   -- whatever is told begins with the replies to the first lines
   tells_begun : (left old new : Option (List ℕ)) (passes : PassesFront Code front limit left old new) (told : Told) → TellsPipe content codes name passes.input told → AppendsFront old new told.bytes
   tells_begun left old new passes told h =
-      tells_front Means (talk_once p one.0) front limit left old new (front_follow Code Means all_mean front limit left old new passes) told (tells_here passes.input told h)
+      tells_front Means (talk_once p one.0) front limit left old new (front_too left old new passes) told (tells_here passes.input told h)
 
   -- a run that came to the end of its input has the told report
   all_reports : (left old new : Option (List ℕ)) (h : PassesAll Code front limit (ran_by r) left old new) → report_texts r ≡ listings_by r.status front

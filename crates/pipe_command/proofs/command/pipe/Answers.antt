@@ -19,7 +19,7 @@ pub run_prepared-requires : goal.run_prepared-requires
 run_prepared-requires g c =
     let t = c.in-Ok.ensures.told in
     let job = c.in-Ok.job in
-    all_take job.read (job_known t.0 c.args.name.now (with_programs job t.2.0) t.2.1).pipe job.read.pipeline.scripts t.2.0 job.scripts.items t.2.2
+    record { ready = all_take job.read (job_known t.0 c.args.name.now (with_programs job t.2.0) t.2.1).pipe job.read.pipeline.scripts t.2.0 job.scripts.items t.2.2 }
 
 pub returns-in-Ok : goal.returns-in-Ok
 returns-in-Ok g c =

@@ -10,7 +10,7 @@ use Rattle.pipe_command.proofs.Ends.{ends_nothing, job_passes, takes_so}
 use Rattle.pipe_command.proofs.command.run_prepared.Goals as goal
 
 pub run_lines-ran-requires : goal.run_lines-ran-requires
-run_lines-ran-requires g c = takes_so c.args.job c.pipe_job-replier.result c.pipe_job-replier.ensures.scripts c.pipe_job-replier.ensures.room c.requires.ready
+run_lines-ran-requires g c = takes_so c.args.job c.pipe_job-replier.result c.pipe_job-replier.ensures.pipeline c.pipe_job-replier.ensures.scripts c.pipe_job-replier.ensures.room c.requires.ready
 
 pub returns-in_default-clause-told : goal.returns-in_default-clause-told
 returns-in_default-clause-told g c =

@@ -18,7 +18,7 @@ returns-clause-compiled c = pipes_all c.args.read.now c.args.scripts.now c.loop-
 
 pub returns-in_err-compiled-clause-refused : goal.returns-in_err-compiled-clause-refused
 returns-in_err-compiled-clause-refused c =
-    let exit = err_from_is_err_and c.from_residual-in_err-compiled.result c.from_residual-in_err-compiled.ensures.1 in
+    let exit = err_from_is_err_and c.from_residual.result c.from_residual.ensures.1 in
     rw (exit.1, exit.2)
     (pipes_not c.args.read.now c.args.scripts.now c.loop-script.script-index c.script-item.result (omega (arith, c.loop-script-test.true)) c.script-item.is c.loop-script.all.items
     c.loop-script.invariant c.in_err-compiled.field-0.0 c.in_err-compiled.ensures.told)

@@ -13,7 +13,7 @@ use Rattle.pipe_command.proofs.reading.pipe_with_list.Goals as goal
 pub returns-in_err-job-clause-told : goal.returns-in_err-job-clause-told
 returns-in_err-job-clause-told g c =
     let found = one_found (g.F.Files.content c.args.files.now) c.args.name.now (Some c.args.bytes.now) c.requires.shown in
-    let exit = err_from_is_err_and c.from_residual-in_err-job.result c.from_residual-in_err-job.ensures.1 in (
+    let exit = err_from_is_err_and c.from_residual.result c.from_residual.ensures.1 in (
       found.0,
       found.1,
       found.2,
