@@ -1,0 +1,8 @@
+-- A job of a pipeline has its own, and another has none.
+use Rattle.serde_json.specs.View.{view}
+use Rattle.pipe_command.proofs.Finding.{its_pipeline, no_pipe}
+use Rattle.pipe_command.proofs.reading.pipeline_in.Goals as goal
+
+pub returns-in-Pipe-clause-told : goal.returns-in-Pipe-clause-told
+returns-in-Pipe-clause-told c =
+    its_pipeline c.args.job.now.context (view c.args.job.now.particulars.pipeline) c.pipeline_of.result c.in-Pipe.is c.pipeline_of.ensures.told
