@@ -1,7 +1,7 @@
 //! Jobs over pipelines as wholes: what is written, the status and the report.
 
-use super::worlds::piped;
-use command_parts::Status;
+use super::pipe_worlds::piped;
+use painless::Status;
 use std::test::Fail;
 
 /// A job, an input, what is written, the number of the status, how many listings the report has, and how many instructions.

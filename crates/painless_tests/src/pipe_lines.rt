@@ -1,6 +1,6 @@
 //! Pipelines, and what lines come to.
 
-use super::worlds::piped;
+use super::pipe_worlds::piped;
 use std::alloc::{AllocError, Global};
 use std::test::Fail;
 
@@ -38,13 +38,11 @@ const ROWS: &str = r#"
 "#;
 
 /// Whether a pipeline replies so to a line.
-fn replies_so(
-    alloc: Global,
-    pipeline: &str,
-    line: &str,
-    reply: &str,
-) -> Result<bool, AllocError> {
-    let mut job = String::from_str(alloc, "{\"context\":\"pipe\",\"pipeline\":")?;
+fn replies_so(alloc: Global, pipeline: &str, line: &str, reply: &str) -> Result<bool, AllocError> {
+    let mut job = String::from_str(
+        alloc,
+        "{\"context\":\"pipe\",\"limits\":{\"loop\":100},\"pipeline\":",
+    )?;
     job.push_str(pipeline)?;
     job.push_str("}")?;
     let (written, _report) = piped(alloc, job.as_str(), line)?;
