@@ -1,5 +1,5 @@
 -- What the scripts of the code answer is what is meant, each script has one answer to each document, and so there is one reply to each line.
-use Rattle.std.proofs.Common.{◌≡◌, ℕ, zero, suc, Bool, true, false, List, [], ◌∷◌, ◌&&◌, Some, None, Result, Ok, Err, map, refl, sym, ap, ◌∙◌, subst, if◌then◌else◌}
+use Rattle.std.proofs.Common.{◌≡◌, ℕ, zero, suc, Bool, true, false, List, [], ◌∷◌, ◌&&◌, Result, Ok, Err, map, refl, sym, ap, ◌∙◌, subst, if◌then◌else◌}
 use Rattle.std.specs.Prelude.{slice_get}
 use Rattle.std.proofs.Math.Path.{fun_ext}
 use Rattle.serde_json.specs.Data.{Data}
@@ -18,18 +18,17 @@ use Rattle.job_commands.specs.machine_declared.configuration.Limits.{Limits}
 use Rattle.job_file.specs.Values.{has_whole_numbers}
 use Rattle.job_file.specs.declared.context.JobContext.{JobContext}
 use Rattle.job_file.specs.declared.context.JobContext.TheVariants as c
-use Rattle.command_parts.specs.Told.{Told}
 use Rattle.document_replies.specs.Jobs.{by_start}
 use Rattle.document_replies.specs.Replies.{Ended}
 use Rattle.document_replies.specs.Starts.{Start, Fault, field, number_outside}
 use Rattle.document_replies.specs.write_ctx_declared.keys.WriteKind.{WriteKind}
-use Rattle.document_replies.proofs.Changing.{HasCtx, StartHasCtx}
+use Rattle.document_replies.proofs.Changing.{StartHasCtx}
 use Rattle.write_ctx.specs.Keys.{is_line}
 use Rattle.write_ctx.specs.Lines.{bound_document, started}
 use Rattle.job_loading.specs.Allow.{AllowList}
 use Rattle.job_loading.specs.Loading.{JobUnder}
 use Rattle.job_loading.specs.Seen.{read_view}
-use Rattle.pipe_job.specs.Code.{AnswersAt, AnswersIn as CodeAnswersIn, Mean, TakeAll, TakesIn}
+use Rattle.pipe_job.specs.Code.{AnswersAt, AnswersIn as CodeAnswersIn, Mean, TakeAll}
 use Rattle.pipe_job.specs.Documents.{edited_by, judged_by, line_of_doc}
 use Rattle.pipe_job.specs.PipeDocuments.{DocData}
 use Rattle.pipe_job.specs.Replies.{Answer, IsAnswerTo, answer_of, meaning_of, wrong_answer}

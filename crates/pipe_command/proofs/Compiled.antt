@@ -1,5 +1,5 @@
 -- The scripts that are compiled are those of the pipeline's programs.
-use Rattle.std.proofs.Common.{◌≡◌, ℕ, ◌+◌, ◌<◌, ◌≤◌, suc, List, [], ◌∷◌, ◌++◌, Option, Some, None, IfSome, Result, Ok, Err, drop, get_or, length, append-nil, append_assoc, refl, sym, ap, ◌∙◌, subst}
+use Rattle.std.proofs.Common.{◌≡◌, ℕ, ◌+◌, ◌<◌, ◌≤◌, List, [], ◌∷◌, ◌++◌, Option, IfSome, Result, Ok, Err, drop, get_or, length, append-nil, append_assoc, refl, sym, ap, ◌∙◌, subst}
 use Rattle.std.proofs.lemmas.List.{drop_all}
 use Rattle.serde_json.specs.View.{view}
 use Rattle.job_commands.specs.script_engine_declared.compiling.Script.{Script}
@@ -16,7 +16,7 @@ use Rattle.job_commands.specs.declared.script.LimitedScript.{LimitedScript}
 use Rattle.job_commands.proofs.Compiled.{AreRefused, IsRefused, behind_all, one_more, behind_none, behind_wrong, if_some}
 use Rattle.job_commands.proofs.Listings.{next_item}
 use Rattle.pipe_command.specs.Answering.{kind_of}
-use Rattle.pipe_command.specs.Pipelines.{PipeUnder, Piped, Pipes, PipesJob, PipesRead, pipe_under, piped_with, texts_of}
+use Rattle.pipe_command.specs.Pipelines.{PipeUnder, Piped, Pipes, PipesJob, PipesRead, pipe_under, texts_of}
 use Rattle.pipe_command.specs.Preparing.{ArePiped, CompilesPipe, IsPiped, PreparesSo, limits_of, pipe_view}
 use Rattle.pipe_command.specs.declared.preparing.PreparedPipe.{PreparedPipe}
 use Rattle.pipe_command.specs.declared.reading.ReadPipe.{ReadPipe}

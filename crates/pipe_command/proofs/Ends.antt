@@ -1,5 +1,5 @@
 -- By which statuses a run ends, and which codes a job has.
-use Rattle.std.proofs.Common.{◌≡◌, ◌≢◌, ℕ, ◌⊎◌, inl, inr, List, [], ◌∷◌, ◌++◌, ◌+◌, ◌<◌, ◌≤◌, Option, IfSome, Result, Ok, Err, drop, get_or, length, map, append-nil, append_assoc, refl, sym, ap, ◌∙◌, subst, string_bytes}
+use Rattle.std.proofs.Common.{◌≡◌, ◌≢◌, ℕ, ◌⊎◌, inl, inr, List, [], ◌∷◌, ◌++◌, ◌+◌, ◌<◌, ◌≤◌, Option, IfSome, Result, Ok, Err, drop, get_or, length, append-nil, append_assoc, refl, sym, ap, ◌∙◌, subst, string_bytes}
 use Rattle.std.proofs.lemmas.List.{drop_all}
 use Rattle.std.specs.Io.KnownBytes.{IsAtEnd}
 use Rattle.job_commands.specs.Codes.{ScriptCodes, script_codes}
@@ -39,7 +39,7 @@ use Rattle.job_commands.specs.Scripts.{JobProgram}
 use Rattle.job_commands.specs.declared.script.LimitedScript.{LimitedScript}
 use Rattle.job_commands.proofs.Listings.{next_item}
 use Rattle.job_commands.proofs.RunEnds.{passes_nothing, passes_report}
-use Rattle.job_commands.proofs.Statuses.{passes_leave, passes_with, passes_file, quiet_lists}
+use Rattle.job_commands.proofs.Statuses.{passes_leave, passes_with, quiet_lists}
 use Rattle.pipe_command.specs.Pipelines.{Piped, PipesJob}
 use Rattle.pipe_command.specs.Preparing.{AreJobScripts, ArePiped, EndsPiped, GivesReplies, IsReady, codes_of, with_programs}
 use Rattle.pipe_command.specs.Telling.{AreCodesBy, AreCodesIn, front_of}

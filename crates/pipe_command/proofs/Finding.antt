@@ -1,11 +1,10 @@
 -- The pipeline of a job, and what stands under its names.
-use Rattle.std.proofs.Common.{◌≡◌, ℕ, ◌≤◌, ◌++◌, List, [], ◌∷◌, Option, Some, None, IfSome, Result, Ok, Err, length, refl, sym, ap, ◌∙◌, subst, string_bytes}
+use Rattle.std.proofs.Common.{◌≡◌, ℕ, ◌≤◌, ◌++◌, List, [], ◌∷◌, Option, Some, None, IfSome, Result, Ok, Err, length, refl, sym, ap, ◌∙◌, subst}
 use Rattle.serde_json.specs.Data.{Data}
 use Rattle.outer_io.specs.Asking.{AsksFront}
 use Rattle.job_file.specs.declared.context.JobContext.{JobContext}
 use Rattle.job_file.specs.declared.context.JobContext.TheVariants as c
 use Rattle.job_file.specs.declared.context.JobCommand.TheVariants as command
-use Rattle.job_file.specs.Answers.{job_view}
 use Rattle.job_file.specs.Jobs.{JobData}
 use Rattle.command_parts.specs.declared.stop.Stop.{Stop}
 use Rattle.command_parts.specs.Asking.{AsksBy}
@@ -16,10 +15,10 @@ use Rattle.command_parts.proofs.Asking.{asks_always, asks_more, asks_then}
 use Rattle.command_parts.proofs.Found.{short_told}
 use Rattle.job_loading.specs.Allow.{AllowList}
 use Rattle.job_loading.specs.Asked.{list_asked}
-use Rattle.job_loading.specs.Loading.{JobUnder, job_in_bytes, job_in_file, job_told, list_named, under}
+use Rattle.job_loading.specs.Loading.{job_in_bytes, job_in_file, job_told, list_named, under}
 use Rattle.job_loading.proofs.Found.{one_found}
 use Rattle.pipe_job.specs.ingest_pipe_declared.processors.Pipeline.{Pipeline}
-use Rattle.pipe_command.specs.Pipelines.{PipeUnder, asked_behind_job, asked_behind_pipeline, behind_job, behind_pipeline, no_pipeline, pipe_asked, pipe_under, pipeline_by, pipeline_in, pipeline_refusal, pipeline_told, with_pipeline}
+use Rattle.pipe_command.specs.Pipelines.{PipeUnder, asked_behind_job, asked_behind_pipeline, behind_job, behind_pipeline, pipe_asked, pipe_under, pipeline_by, pipeline_in, pipeline_refusal, pipeline_told, with_pipeline}
 use Rattle.pipe_command.specs.Preparing.{pipe_view}
 use Rattle.pipe_command.specs.declared.reading.ReadPipe.{ReadPipe}
 
@@ -77,21 +76,7 @@ pub pipeline_bad : (meaning : Result Pipeline (List ℕ)) (path : List ℕ) (sto
     → IfSome (stop_told stop) (λ t. pipeline_told meaning ≡ Err t)
 pipeline_bad meaning path stop is = refused_so (stop_told stop) (pipeline_refusal path) (pipeline_told meaning) (ap pipeline_told is)
 
--- a job of another context has none
-pub no_pipe : (of : JobContext) (d : Data) (stop : Stop) → (of ≡ c.Pipe → ⊥) → IfSome (stop_told stop) (λ t. t ≡ no_pipeline) → IfSome (stop_told stop) (λ t. pipeline_by of d ≡ Err t)
-no_pipe c.Pipe d stop other = absurd (other refl)
-no_pipe c.Eval d stop other = refused_so (stop_told stop) no_pipeline (pipeline_by c.Eval d) refl
-no_pipe c.Filter d stop other = refused_so (stop_told stop) no_pipeline (pipeline_by c.Filter d) refl
-no_pipe c.Score d stop other = refused_so (stop_told stop) no_pipeline (pipeline_by c.Score d) refl
-no_pipe c.Field d stop other = refused_so (stop_told stop) no_pipeline (pipeline_by c.Field d) refl
-no_pipe c.Update d stop other = refused_so (stop_told stop) no_pipeline (pipeline_by c.Update d) refl
-no_pipe c.Ingest d stop other = refused_so (stop_told stop) no_pipeline (pipeline_by c.Ingest d) refl
-no_pipe c.Metric d stop other = refused_so (stop_told stop) no_pipeline (pipeline_by c.Metric d) refl
-no_pipe c.Updates d stop other = refused_so (stop_told stop) no_pipeline (pipeline_by c.Updates d) refl
-no_pipe c.Serve d stop other = refused_so (stop_told stop) no_pipeline (pipeline_by c.Serve d) refl
-no_pipe c.FunctionScore d stop other = refused_so (stop_told stop) no_pipeline (pipeline_by c.FunctionScore d) refl
-
--- .. and one of this its own
+-- a job of a pipeline has its own
 pub its_pipeline : (of : JobContext) (d : Data) (result : Result Pipeline Stop) → of ≡ c.Pipe → ComesSo (λ (p : Pipeline). p) result (pipeline_by c.Pipe d) → ComesSo (λ (p : Pipeline). p) result (pipeline_by of d)
 its_pipeline of d result is = subst (λ (x : JobContext). ComesSo (λ (p : Pipeline). p) result (pipeline_by x d)) (sym is)
 

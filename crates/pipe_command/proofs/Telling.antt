@@ -1,9 +1,9 @@
 -- One thing is told of a job over an input, and what is delivered of it.
-use Rattle.std.proofs.Common.{◌≡◌, ◌⊎◌, ℕ, inl, inr, List, [], ◌∷◌, map, Option, Result, Ok, Err, refl, sym, ap, ◌∙◌, subst}
+use Rattle.std.proofs.Common.{◌≡◌, ◌⊎◌, ℕ, inl, inr, List, [], Option, Result, Ok, Err, refl, sym, ap, ◌∙◌, subst}
 use Rattle.outer_io.specs.Front.{AppendsFront}
 use Rattle.outer_io.specs.Lines.{InputLine}
 use Rattle.job_commands.specs.Codes.{ScriptCodes}
-use Rattle.job_commands.specs.Laws.{TextsAreAnswered, TextsAreAnsweredOnce, ProgramsEnd, ProgramsEndOnce, CodesCountOnce, ListedCodesCount, CodesAreListed, PreludeIsListed}
+use Rattle.job_commands.specs.Laws.{TextsAreAnswered, TextsAreAnsweredOnce, ProgramsEnd, ProgramsEndOnce, CodesCountOnce, ListedCodesCount}
 use Rattle.job_file.specs.declared.context.JobContext.TheVariants as c
 use Rattle.command_parts.specs.declared.report.Report.{Report}
 use Rattle.command_parts.specs.declared.status.Status.{Status}
@@ -14,14 +14,13 @@ use Rattle.command_parts.specs.Told.{Told}
 use Rattle.document_replies.specs.Passing.{PassesAll, PassesEnd, PassesFront, PassesBy, listings_by}
 use Rattle.document_replies.specs.LineRunReplies.{Talk, Front, Reply, bytes_behind, stateless, TellsInput, TellsTaken}
 use Rattle.document_replies.proofs.Talks.{Follows, IsOnce, stateless_follows, stateless_once, stateless_total, input_follow, taken_follow, are_follow, input_once, input_some, tells_front}
-use Rattle.job_loading.specs.Loading.{JobUnder}
 use Rattle.pipe_job.specs.PipeDocuments.{DocData}
 use Rattle.pipe_job.specs.Replies.{Answer, meaning_of, reply_to}
 use Rattle.job_commands.specs.Documents.{ListsBy, ran_by}
 use Rattle.job_commands.specs.Listing.{AreEachCodes, listings_of}
 use Rattle.job_commands.specs.Scripts.{ArePrograms, JobProgram, RefusedScript}
 use Rattle.job_commands.proofs.Jobs.{AreRead, programs_once, programs_read, programs_some}
-use Rattle.pipe_command.specs.Answering.{AllAnswer, AnswersIn}
+use Rattle.pipe_command.specs.Answering.{AllAnswer}
 use Rattle.pipe_command.specs.Pipelines.{PipeUnder, Piped, Pipes, PipesJob, PipesRead, pipe_under, piped_with, texts_of}
 use Rattle.pipe_command.specs.Preparing.{AreJobScripts, EndsPiped, GivesReplies, codes_of, with_programs}
 use Rattle.pipe_command.specs.Telling.{AreCodesBy, AreCodesIn, PipesPast, TellsPipe, TellsPipeTaken, TellsPiped, front_of, talk_of}

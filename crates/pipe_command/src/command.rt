@@ -1,9 +1,8 @@
 //! The command `pipe`.
 
-ghost use Rattle.std.specs.Prelude.{◌≡◌, ◌≢◌, ◌++◌, List, [], IfOk, OnOk, map, string_bytes};
+ghost use Rattle.std.specs.Prelude.{◌≡◌, ◌≢◌, IfOk, map, string_bytes};
 ghost use Rattle.outer_io.specs.Faults.{next_count};
-ghost use Rattle.command_parts.specs.Ends.{EndsAsTold, LeavesInput};
-ghost use Rattle.job_commands.specs.Documents.{ran_by};
+ghost use Rattle.command_parts.specs.Ends.{EndsAsTold};
 ghost use Rattle.job_commands.specs.Listing.{listings_of};
 ghost use Rattle.pipe_command.specs.Preparing.{EndsPiped, IsReady, codes_of};
 ghost use Rattle.pipe_command.specs.Telling.{pipe_telling};

@@ -1,13 +1,13 @@
 //! From a job's file to the scripts of its pipeline, which can be run.
 
-ghost use Rattle.std.specs.Prelude.{◌≡◌, ◌≢◌, ◌++◌, ℕ, List, [], ◌∷◌, Option, IfErr, IfOk, IfSome, OnOk, if◌then◌else◌};
+ghost use Rattle.std.specs.Prelude.{◌≡◌, ◌≢◌, ◌++◌, ℕ, List, [], ◌∷◌, Option, IfErr, IfOk, IfSome, OnOk};
 ghost use Rattle.serde_json.specs.View.{view};
 ghost use Rattle.outer_io.specs.Faults.{HasCause};
 ghost use Rattle.command_parts.specs.Asking.{AsksBy};
 ghost use Rattle.job_loading.specs.Seen.{read_view};
 ghost use Rattle.job_commands.specs.Preparing.{CompilesScript, RefusesScripts};
 ghost use Rattle.pipe_command.specs.Answering.{kind_of};
-ghost use Rattle.pipe_command.specs.Pipelines.{PipesJob, PipesRead, Pipes, pipe_asked, texts_of};
+ghost use Rattle.pipe_command.specs.Pipelines.{Pipes, PipesJob, pipe_asked, texts_of};
 ghost use Rattle.pipe_command.specs.Preparing.{CompilesPipe, PreparesSo, limits_of, pipe_view};
 
 use crate::reading::{ReadPipe, read_pipe};

@@ -1,5 +1,5 @@
 -- The job, its pipeline or its list is refused, or all is read.
-use Rattle.std.proofs.Common.{Some, sym, ap}
+use Rattle.std.proofs.Common.{Some}
 use Rattle.std.proofs.lemmas.Result.{err_from_is_err_and}
 use Rattle.job_file.specs.Answers.{job_view}
 use Rattle.job_file.specs.declared.context.JobCommand.TheVariants as command

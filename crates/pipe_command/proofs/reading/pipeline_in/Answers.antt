@@ -1,6 +1,6 @@
--- A job of a pipeline has its own, and another has none.
+-- A job of a pipeline has its own.
 use Rattle.serde_json.specs.View.{view}
-use Rattle.pipe_command.proofs.Finding.{its_pipeline, no_pipe}
+use Rattle.pipe_command.proofs.Finding.{its_pipeline}
 use Rattle.pipe_command.proofs.reading.pipeline_in.Goals as goal
 
 pub returns-in-Pipe-clause-told : goal.returns-in-Pipe-clause-told
