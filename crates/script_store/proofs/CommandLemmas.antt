@@ -44,7 +44,7 @@ module _ {M : Type 0} (compiled : Script → Result M Refusal) where
   no_err (Err fault) h = absurd (true≢false (sym h))
 
   -- a look-up refuses what compiling anew refuses
-  fault_anew : (key : Script) (cache : Cache) → AllOk cache.keys → fault_in (compiled key) key cache ≡ result_err (compiled key)
+  pub fault_anew : (key : Script) (cache : Cache) → AllOk cache.keys → fault_in (compiled key) key cache ≡ result_err (compiled key)
   fault_anew key cache all = elim (cases_Bool (has_key key cache.keys)) [
     | inl in_keys ↦ ap (λ b. cond b None (result_err (compiled key))) in_keys ∙ no_err (compiled key) (ok_there key cache.keys all in_keys)
     | inr not_in ↦ ap (λ b. cond b None (result_err (compiled key))) not_in
@@ -68,20 +68,20 @@ module _ {M : Type 0} (compiled : Script → Result M Refusal) where
   stored_ok id key stored all (Ok m) h = accepted_inserted compiled id key stored all (h refl)
   stored_ok id key stored all (Err fault) h = all
 
-  abbrev IsKept : State → Type 0
+  abbrev pub IsKept : State → Type 0
   IsKept state = AllAccepted compiled state.stored × AllOk state.cache.keys
 
-  kept_put : (id : List ℕ) (key : Script) (state : State) → IsKept state → IsKept (after_put (compiled key) id key state)
+  pub kept_put : (id : List ℕ) (key : Script) (state : State) → IsKept state → IsKept (after_put (compiled key) id key state)
   kept_put id key state kept = (
     subst (λ (f : Option Refusal). AllAccepted compiled (with_accepted f id key state.stored)) (sym (fault_anew key state.cache kept.1)) (stored_ok id key state.stored kept.0 (compiled key) (λ h. h)),
     ok_looked key state.cache kept.1,
   )
 
-  kept_look : (o : Option Script) (state : State) → IsKept state → IsKept (after_look compiled o state)
+  pub kept_look : (o : Option Script) (state : State) → IsKept state → IsKept (after_look compiled o state)
   kept_look None state kept = kept
   kept_look (Some key) state kept = (kept.0, ok_looked key state.cache kept.1)
 
-  look_stored : (o : Option Script) (state : State) → (after_look compiled o state).stored ≡ state.stored
+  pub look_stored : (o : Option Script) (state : State) → (after_look compiled o state).stored ≡ state.stored
   look_stored None state = refl
   look_stored (Some key) state = refl
 

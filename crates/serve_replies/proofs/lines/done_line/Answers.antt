@@ -1,0 +1,8 @@
+-- The texts of constants.
+use Rattle.std.proofs.Common.{refl}
+use Rattle.serde_json.proofs.OnLiterals.{serde_json_on_literals}
+use Rattle.serve_replies.proofs.lines.done_line.Goals as goal
+
+pub returns : goal.returns
+unfolding serde_json_on_literals
+returns c = refl
